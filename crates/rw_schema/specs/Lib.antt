@@ -1,0 +1,6 @@
+pub mod First
+pub mod Presentation
+pub mod RowLists
+pub mod SchemaFaults
+pub mod SectionName
+pub mod Signature

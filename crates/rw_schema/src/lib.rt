@@ -1,0 +1,37 @@
+//! Schemas of attributed C-sets: presented categories with attributes, and the plain lists that data over
+//! them is kept in.
+//!
+//! A schema has objects, arrows between them, attributes of objects and equations between paths of arrows.
+//! An instance gives each object a finite set of names, each arrow a function and each attribute a cell a
+//! name; `Rows` are the lists that it is written in.
+#![tactic(auto)]
+
+mod atom;
+mod fault;
+mod ids;
+mod memory;
+mod named;
+mod names;
+mod part_map;
+mod parts;
+mod path;
+mod rows;
+mod schema;
+mod section;
+mod signature;
+mod text;
+
+pub use atom::{Atom, Kind};
+pub use fault::SchemaFault;
+pub use ids::{ArrowId, AttrId, ObjectId};
+pub use memory::OutOfMemory;
+pub use named::Named;
+pub use names::Names;
+pub use part_map::PartMap;
+pub use parts::{ArrowDef, AttrDef, Equation, SchemaParts};
+pub use path::Path;
+pub use rows::Rows;
+pub use schema::Schema;
+pub use section::Section;
+pub use signature::{ArrowEnds, AttrEnds};
+pub use text::Text;

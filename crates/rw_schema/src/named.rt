@@ -1,0 +1,30 @@
+//! Things that have a name.
+
+ghost use Rattle.std.specs.Prelude.{◌≡◌, List, ℕ};
+
+use crate::{ArrowDef, Text};
+
+/// A thing with a name.
+pub trait Named {
+    /// The bytes of the name.
+    ghost name_of: { Self → List ℕ };
+
+    fn name(&self) -> &Text
+        ensures { result.now ≡ name_of self.now };
+}
+
+impl Named for Text {
+    ghost name_of = { λ text. text };
+
+    fn name(&self) -> &Text {
+        self
+    }
+}
+
+impl Named for ArrowDef {
+    ghost name_of = { λ arrow. arrow.name };
+
+    fn name(&self) -> &Text {
+        &self.name
+    }
+}

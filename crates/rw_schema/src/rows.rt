@@ -1,0 +1,93 @@
+//! The lists of an instance.
+
+ghost use Rattle.std.specs.Prelude.{◌≡◌, ◌<◌, [], length, map, slice_get, slice_index, Some};
+ghost use Rattle.rw_schema.specs.RowLists.{RowLists, list_at};
+
+use crate::{ArrowId, ObjectId};
+use std::marker::Model;
+
+/// The lists of an instance: of each object the names of its parts, of each arrow one image for each name
+/// of its source, in the order of the names, and of each object the next name to be given. Whether the
+/// lists are an instance of some schema is not looked at here.
+#[derive(Drop)]
+pub struct Rows {
+    names: Vec<Vec<u32>>,
+    arrows: Vec<Vec<u32>>,
+    next: Vec<u32>,
+}
+
+impl Model for Rows {
+    ghost use Rattle.std.specs.Prelude.{map, []};
+    ghost use Rattle.rw_schema.specs.RowLists.{RowLists};
+
+    ghost Value = { RowLists };
+
+    ghost view = { λ rows. record {
+      names = map (λ list. list.items) rows.names.items;
+      arrows = map (λ list. list.items) rows.arrows.items;
+      cells = [];
+      next = rows.next.items;
+    } };
+}
+
+impl Rows {
+    pub fn from_lists(names: Vec<Vec<u32>>, arrows: Vec<Vec<u32>>, next: Vec<u32>) -> Rows
+        ensures { result ≡ record {
+          names = map (λ list. list.items) names.items;
+          arrows = map (λ list. list.items) arrows.items;
+          cells = [];
+          next = next.items;
+        } }
+    {
+        Rows {
+            names,
+            arrows,
+            next,
+        }
+    }
+
+    /// The names of an object's parts.
+    pub fn names(&self, object: ObjectId) -> &[u32]
+        requires { object.0 < length self.now.names }
+        ensures { result.now ≡ list_at self.now.names object.0 }
+    {
+        self.names[object.0 as usize].as_slice()
+    }
+
+    /// The images under an arrow: the i-th is that of the i-th name of its source.
+    pub fn row(&self, arrow: ArrowId) -> &[u32]
+        requires { arrow.0 < length self.now.arrows }
+        ensures { result.now ≡ list_at self.now.arrows arrow.0 }
+    {
+        self.arrows[arrow.0 as usize].as_slice()
+    }
+
+    /// The next name of an object.
+    pub fn next(&self, object: ObjectId) -> u32
+        requires { object.0 < length self.now.next }
+        ensures { result ≡ slice_index self.now.next object.0 }
+    {
+        self.next[object.0 as usize]
+    }
+
+    /// The number of lists of names.
+    pub fn name_lists(&self) -> usize
+        ensures { result ≡ length self.now.names }
+    {
+        self.names.len()
+    }
+
+    /// The number of lists of images.
+    pub fn row_lists(&self) -> usize
+        ensures { result ≡ length self.now.arrows }
+    {
+        self.arrows.len()
+    }
+
+    /// The number of next names.
+    pub fn next_names(&self) -> usize
+        ensures { result ≡ length self.now.next }
+    {
+        self.next.len()
+    }
+}
