@@ -1,0 +1,4 @@
+pub mod Matches
+pub mod PatternFaults
+pub mod PatternLists
+pub mod Tuples

@@ -1,5 +1,5 @@
 -- The first of several faults, and the first in a list.
-use Rattle.std.specs.Prelude.{ℕ, ◌+◌, Bool, true, false, Option, Some, None, List, [], ◌∷◌}
+use Rattle.std.specs.Prelude.{ℕ, ◌+◌, Bool, true, false, ◌&&◌, Option, Some, None, List, [], ◌∷◌, ◌++◌}
 
 -- the first of two answers that is there
 abbrev pub or_else : {A : Type 0} → Option A → Option A → Option A
@@ -20,3 +20,13 @@ fault_unless false fault = Some fault
 abbrev pub map_in : {X A : Type 0} → (ℕ → X → A) → ℕ → List X → List A
 map_in f i [] = []
 map_in f i (x ∷ xs) = f i x ∷ map_in f (i + 1) xs
+
+-- whether f holds of each place and the item there, where the list begins at place i
+abbrev pub all_in : {X : Type 0} → (ℕ → X → Bool) → ℕ → List X → Bool
+all_in f i [] = true
+all_in f i (x ∷ xs) = f i x && all_in f (i + 1) xs
+
+-- what f gives of each place and the item there, one after the other, where the list begins at place i
+abbrev pub flat_map_in : {X A : Type 0} → (ℕ → X → List A) → ℕ → List X → List A
+flat_map_in f i [] = []
+flat_map_in f i (x ∷ xs) = f i x ++ flat_map_in f (i + 1) xs
