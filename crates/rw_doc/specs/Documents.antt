@@ -1,0 +1,175 @@
+-- The model of a document, or its first fault, over the JSON value that its bytes are. The sections are read in the
+-- order in which they stand here.
+use Rattle.std.specs.Prelude.{◌==◌, ℕ, Bool, not, ◌&&◌, nat_le, length, map, take, codes, List, [], ◌∷◌, Option, Some, None, Result, Ok, Err, if◌then◌else◌, position}
+use Rattle.std.specs.List.{list_all, list_any, range_with_len}
+use Rattle.std.specs.Str.{bytes_eq, is_utf8}
+use Rattle.std.proofs.Math.ListN.{replicate}
+use Rattle.serde_json.specs.Data.{Data}
+use Rattle.serde_json.specs.Find.{as_str, get}
+use Rattle.serde_json.specs.Read.{read}
+use Rattle.rw_schema.specs.declared.ids.ObjectId.{ObjectId}
+use Rattle.rw_schema.specs.declared.parts.ArrowDef.{ArrowDef}
+use Rattle.rw_schema.specs.declared.section.Section.TheVariants.{Whole}
+use Rattle.rw_schema.specs.First.{all_in}
+use Rattle.rw_schema.specs.Presentation.{Presentation, signature_of}
+use Rattle.rw_schema.specs.RowLists.{RowLists}
+use Rattle.rw_schema.specs.SchemaFaults.{schema_fault, is_name}
+use Rattle.rw_schema.specs.Signature.{Signature}
+use Rattle.rw_table.specs.Tabled.{Tabled}
+use Rattle.rw_table.specs.TableFaults.{table_fault}
+use Rattle.rw_pattern.specs.PatternFaults.{pattern_fault}
+use Rattle.rw_pattern.specs.PatternLists.{PatternLists}
+use Rattle.rw_doc.specs.declared.document.Watch.{Watch}
+use Rattle.rw_doc.specs.declared.fault.DocFault.{DocFault}
+use Rattle.rw_doc.specs.Chain.{and_then, each_in, some_or, passes, sound}
+use Rattle.rw_doc.specs.Json.{as_list, as_count, has_only}
+use Rattle.rw_doc.specs.Models.{DocumentLists}
+
+-- the bytes are no JSON text
+abbrev pub not_json : DocFault
+not_json = record { code = 1; section = Whole; first = 0; second = 0; third = 0 }
+
+-- the value is no document of the form that is read so far
+abbrev pub not_built : DocFault
+not_built = record { code = 16; section = Whole; first = 0; second = 0; third = 0 }
+
+-- ---- pieces
+
+-- the value itself, an object with no other keys than these
+abbrev pub with_keys : List (List ℕ) → Data → Result Data DocFault
+with_keys keys value = passes not_built (has_only keys value) value
+
+-- the member at a key
+abbrev pub needed : List ℕ → Data → Result Data DocFault
+needed key value = some_or not_built (get key value)
+
+abbrev pub read_text : Data → Result (List ℕ) DocFault
+read_text value = some_or not_built (as_str value)
+
+abbrev pub read_count : Data → Result ℕ DocFault
+read_count value = some_or not_built (as_count value)
+
+abbrev pub read_items : Data → Result (List Data) DocFault
+read_items value = some_or not_built (as_list value)
+
+-- the items of a list with at most so many
+abbrev pub read_at_most : ℕ → Data → Result (List Data) DocFault
+read_at_most most value = and_then (read_items value) (λ items. passes not_built (nat_le (length items) most) items)
+
+abbrev pub read_counts : Data → Result (List ℕ) DocFault
+read_counts value = and_then (read_items value) (each_in (λ place. read_count) 0)
+
+abbrev pub read_count_lists : Data → Result (List (List ℕ)) DocFault
+read_count_lists value = and_then (read_items value) (each_in (λ place. read_counts) 0)
+
+-- ---- the schema
+
+abbrev pub read_objects : Data → Result (List (List ℕ)) DocFault
+read_objects schema = and_then (needed (codes "objects") schema) (λ value. and_then (read_at_most 64 value) (each_in (λ place. read_text) 0))
+
+-- the object with the name that the value is
+abbrev pub read_object : List (List ℕ) → Data → Result ObjectId DocFault
+read_object objects value = and_then (read_text value) (λ name.
+    and_then (some_or not_built (position (bytes_eq name) objects)) (λ number. Ok (record { 0 = number })))
+
+abbrev pub arrow_from : List (List ℕ) → List Data → Result ArrowDef DocFault
+arrow_from objects [] = Err not_built
+arrow_from objects (name ∷ []) = Err not_built
+arrow_from objects (name ∷ source ∷ []) = Err not_built
+arrow_from objects (name ∷ source ∷ target ∷ []) = and_then (read_text name) (λ name. and_then (read_object objects source) (λ source.
+    and_then (read_object objects target) (λ target. Ok (record { name = name; source = source; target = target }))))
+arrow_from objects (name ∷ source ∷ target ∷ other ∷ others) = Err not_built
+
+-- an arrow is a list of its name, its source and its target
+abbrev pub read_arrow : List (List ℕ) → Data → Result ArrowDef DocFault
+read_arrow objects value = and_then (read_items value) (arrow_from objects)
+
+abbrev pub read_arrows : List (List ℕ) → Data → Result (List ArrowDef) DocFault
+read_arrows objects schema = and_then (needed (codes "arrows") schema) (λ value.
+    and_then (read_at_most 256 value) (each_in (λ place. read_arrow objects) 0))
+
+abbrev pub presentation : List (List ℕ) → List ArrowDef → Presentation
+presentation objects arrows = record { objects = objects; arrows = arrows; attributes = []; equations = [] }
+
+abbrev pub read_schema : Data → Result Presentation DocFault
+read_schema value = and_then (with_keys (codes "arrows" ∷ codes "objects" ∷ []) value) (λ value.
+    and_then (read_objects value) (λ objects. and_then (read_arrows objects value) (λ arrows.
+    let schema = presentation objects arrows in sound not_built (schema_fault schema) schema)))
+
+-- ---- the instance
+
+-- the lists of an instance whose parts are named from 0 in each object
+abbrev pub rows_of : List ℕ → List (List ℕ) → RowLists
+rows_of parts arrows = record { names = map (range_with_len 0) parts; arrows = arrows; cells = []; next = parts }
+
+-- one count of at most 1,000,000 for each object
+abbrev pub are_part_counts : Signature → List ℕ → Bool
+are_part_counts C parts = length parts == C.objects && list_all (λ count. nat_le count 1000000) parts
+
+abbrev pub read_parts : Signature → Data → Result (List ℕ) DocFault
+read_parts C value = and_then (needed (codes "parts") value) (λ value. and_then (read_counts value) (λ parts. passes not_built (are_part_counts C parts) parts))
+
+abbrev pub read_rows : Data → Result (List (List ℕ)) DocFault
+read_rows value = and_then (needed (codes "rows") value) read_count_lists
+
+abbrev pub table_of : Signature → RowLists → Result Tabled DocFault
+table_of C rows = sound not_built (table_fault C rows) (record { signature = C; rows = rows })
+
+abbrev pub read_instance : Signature → Data → Result Tabled DocFault
+read_instance C value = and_then (with_keys (codes "parts" ∷ codes "rows" ∷ []) value) (λ value.
+    and_then (read_parts C value) (λ parts. and_then (read_rows value) (λ rows. table_of C (rows_of parts rows))))
+
+-- where no instance is written, no object has a part
+abbrev pub instance_or_none : Signature → Option Data → Result Tabled DocFault
+instance_or_none C None = table_of C (rows_of (replicate C.objects 0) (replicate (length C.arrows) []))
+instance_or_none C (Some value) = read_instance C value
+
+-- ---- the watches
+
+abbrev pub read_pattern : Signature → Data → Result PatternLists DocFault
+read_pattern C value = and_then (with_keys (codes "parts" ∷ codes "rows" ∷ []) value) (λ value.
+    and_then (needed (codes "parts") value) (λ parts. and_then (read_counts parts) (λ sizes. and_then (read_rows value) (λ rows.
+    let pattern : PatternLists = record { sizes = sizes; rows = rows } in sound not_built (pattern_fault C pattern) pattern))))
+
+abbrev pub read_name : Data → Result (List ℕ) DocFault
+read_name value = and_then (needed (codes "name") value) (λ value. and_then (read_text value) (λ name. passes not_built (is_name name) name))
+
+abbrev pub read_watch : Signature → Data → Result Watch DocFault
+read_watch C value = and_then (with_keys (codes "name" ∷ codes "pattern" ∷ []) value) (λ value. and_then (read_name value) (λ name.
+    and_then (needed (codes "pattern") value) (λ value. and_then (read_pattern C value) (λ pattern. Ok (record { name = name; pattern = pattern })))))
+
+-- no watch has the name of an earlier one
+abbrev pub are_apart : List Watch → Bool
+are_apart watches = all_in (λ place watch. not (list_any (λ other. bytes_eq watch.name other.name) (take place watches))) 0 watches
+
+abbrev pub read_watches : Signature → Data → Result (List Watch) DocFault
+read_watches C value = and_then (read_at_most 64 value) (λ items.
+    and_then (each_in (λ place. read_watch C) 0 items) (λ watches. passes not_built (are_apart watches) watches))
+
+abbrev pub watches_or_none : Signature → Option Data → Result (List Watch) DocFault
+watches_or_none C None = Ok []
+watches_or_none C (Some value) = read_watches C value
+
+-- ---- the whole
+
+-- the format is 1
+abbrev pub with_format : Data → Result Data DocFault
+with_format value = and_then (needed (codes "format") value) (λ format. and_then (read_count format) (λ number. passes not_built (number == 1) value))
+
+abbrev pub document_keys : List (List ℕ)
+document_keys = codes "format" ∷ codes "instance" ∷ codes "schema" ∷ codes "watches" ∷ []
+
+abbrev pub read_value : Data → Result DocumentLists DocFault
+read_value value = and_then (with_keys document_keys value) (λ value. and_then (with_format value) (λ value.
+    and_then (needed (codes "schema") value) (λ schema. and_then (read_schema schema) (λ schema.
+    and_then (instance_or_none (signature_of schema) (get (codes "instance") value)) (λ table.
+    and_then (watches_or_none (signature_of schema) (get (codes "watches") value)) (λ watches.
+    Ok (record { schema = schema; table = table; watches = watches })))))))
+
+-- the JSON value that bytes are
+abbrev pub read_json : List ℕ → Result Data DocFault
+read_json bytes = if is_utf8 bytes then some_or not_json (read bytes) else Err not_json
+
+-- the model of the document that bytes are, or its first fault
+abbrev pub read_document : List ℕ → Result DocumentLists DocFault
+read_document bytes = and_then (read_json bytes) read_value
