@@ -1,6 +1,7 @@
 //! Whether the names of each object ascend strictly, below its next name.
 
-ghost use Rattle.std.specs.Prelude.{◌≡◌, ◌≤◌, length};
+ghost use Rattle.std.specs.Prelude.{◌≡◌, ◌≤◌, length, nat_lt};
+ghost use Rattle.std.specs.List.{list_all};
 ghost use Rattle.rw_table.specs.TableFaults.{ascends, are_names, names_fault};
 
 use crate::TableFault;
@@ -25,7 +26,7 @@ pub fn first_names_fault(rows: &Rows) -> Option<TableFault>
 fn are_below(next: u32, names: &[u32]) -> bool
     ensures { result ≡ are_names next names.now }
 {
-    are_ascending(names) && names.iter().all(|name| *name < next)
+    are_ascending(names) && are_less(names, next)
 }
 
 /// Whether each number is less than the one after it.
@@ -33,4 +34,11 @@ fn are_ascending(names: &[u32]) -> bool
     ensures { result ≡ ascends names.now }
 {
     names.is_sorted_by(|earlier, later| *earlier < *later)
+}
+
+/// Whether each number is less than the bound.
+fn are_less(names: &[u32], bound: u32) -> bool
+    ensures { result ≡ list_all (λ name. nat_lt name bound) names.now }
+{
+    names.iter().all(|name| *name < bound)
 }
