@@ -1,7 +1,8 @@
 -- What holds of lists in which no fault is.
-use Rattle.std.proofs.Common.{◌≡◌, ◌==◌, ◌∙◌, ℕ, zero, suc, ◌+◌, ◌<◌, ◌≤◌, Bool, true, ◌&&◌, nat_lt, List, [], ◌∷◌, length, get_or, get_or_past, Option, Some, None, slice_get, slice_index, refl, sym, ap, inl, inr, add-zero, arith}
+use Rattle.std.proofs.Common.{◌≡◌, ◌==◌, ◌∙◌, ℕ, zero, suc, ◌+◌, ◌<◌, ◌≤◌, Bool, true, ◌&&◌, nat_lt, List, [], ◌∷◌, length, get_or, Option, Some, None, slice_get, slice_index, refl, sym, ap, subst, inl, inr, zero-add, add-zero, arith}
 use Rattle.std.specs.List.{Contains, list_any, list_all}
 use Rattle.std.proofs.lemmas.Bool.{and_parts, eqb-true, cases_lt}
+use Rattle.std.proofs.lemmas.List.{get_or_past}
 use Rattle.std.proofs.lemmas.Option.{slice_get-get_or}
 use Rattle.rw_schema.specs.declared.signature.ArrowEnds.{ArrowEnds}
 use Rattle.rw_schema.specs.First.{or_else, first_in, fault_unless, all_in}
@@ -25,6 +26,10 @@ all_in_at test i (y ∷ xs) all zero x there =
 all_in_at test i (y ∷ xs) all (suc k) x there =
     let same : (i + 1) + k ≡ i + suc k = omega arith in
     rw (← same) (all_in_at test (i + 1) xs (and_parts (test i y) (all_in test (i + 1) xs) all).1 k x there)
+
+-- where no item has a fault, the one at a place has none
+none_at : {X A : Type 0} (f : ℕ → X → Option A) (xs : List X) (k : ℕ) (x : X) → first_in f 0 xs ≡ None → slice_get xs k ≡ Some x → f k x ≡ None
+none_at f xs k x none there = subst (λ place. f place x ≡ None) (zero-add k) (first_none f 0 xs none k x there)
 
 -- lists of the right shape
 pub record AreShaped (C : Signature) (rows : RowLists) : Type 0 where
@@ -52,7 +57,7 @@ checked_known C rows none =
 pub row_whole : (C : Signature) (rows : RowLists) (a : ℕ) (ends : ArrowEnds) → has_shape C rows ≡ true → slice_get C.arrows a ≡ Some ends
     → length (list_at rows.arrows a) ≡ length (list_at rows.names ends.source.0)
 row_whole C rows a ends shaped there =
-    let whole : has_length rows a ends ≡ true = all_in_at (has_length rows) 0 C.arrows (shape_known C rows shaped).whole a ends there in
+    let whole : has_length rows a ends ≡ true = subst (λ place. has_length rows place ends ≡ true) (zero-add a) (all_in_at (has_length rows) 0 C.arrows (shape_known C rows shaped).whole a ends there) in
     eqb-true (length (list_at rows.arrows a)) (length (list_at rows.names ends.source.0)) whole
 
 -- the names of each object ascend; those of a number that is no object are none
@@ -63,7 +68,7 @@ names_ascend rows object none =
         let there = slice_get-get_or rows.names object [] within in
         let names = list_at rows.names object in
         let next = slice_index rows.next object in
-        let passed = first_none (λ each names. fault_unless (are_names (slice_index rows.next each) names) (Names (record { 0 = each }))) 0 rows.names none object names there in
+        let passed = none_at (λ each names. fault_unless (are_names (slice_index rows.next each) names) (Names (record { 0 = each }))) rows.names object names none there in
         (and_parts (ascends names) (list_all (λ name. nat_lt name next) names) (passed_unless (are_names next names) (Names (record { 0 = object })) passed)).0
     | inr past ↦ rw (get_or_past rows.names object [] past) refl
     ]
@@ -78,7 +83,7 @@ pub images_named : (C : Signature) (rows : RowLists) (a : ℕ) (ends : ArrowEnds
 images_named C rows a ends image none there (k, within, is) =
     let names = list_at rows.names ends.target.0 in
     let row = list_at rows.arrows a in
-    let row_none : row_fault rows a ends ≡ None = first_none (row_fault rows) 0 C.arrows none a ends there in
+    let row_none : row_fault rows a ends ≡ None = none_at (row_fault rows) C.arrows a ends none there in
     let found : slice_get row k ≡ Some image = slice_get-get_or row k image within ∙ ap Some is in
-    let passed = first_none (λ position image. fault_unless (list_any (λ name. name == image) names) (Range (record { 0 = a }) position)) 0 row row_none k image found in
+    let passed = none_at (λ position image. fault_unless (list_any (λ name. name == image) names) (Range (record { 0 = a }) position)) row k image row_none found in
     contains_found names image (passed_unless (list_any (λ name. name == image) names) (Range (record { 0 = a }) k) passed)
