@@ -57,9 +57,21 @@ fn first_row_fault(rows: &Rows, arrow: ArrowId, ends: ArrowEnds) -> Option<Table
     requires names { names_fault rows.now ≡ None }
     ensures { result ≡ row_fault rows.now arrow.0 ends }
 {
-    // The names are different numbers of 32 bits, so that there are not more of them.
-    let _names = rows.names(ends.source);
-    first_stray(arrow, rows.names(ends.target), rows.row(arrow))
+    let sources = rows.names(ends.source);
+    let targets = rows.names(ends.target);
+    let images = rows.row(arrow);
+    let count = count_of(sources);
+    prove!(images.len() == count);
+    first_stray(arrow, targets, images)
+}
+
+/// The number of names. They are different numbers of 32 bits.
+fn count_of(names: &[u32]) -> usize
+    requires { ascends names.now ≡ true }
+    ensures value { result ≡ length names.now }
+    ensures few { result ≤ 2 ^ 32 }
+{
+    names.len()
 }
 
 /// The first image that is none of the names.
