@@ -1,5 +1,5 @@
 -- When lists are a schema, and the first fault of those that are none.
-use Rattle.std.specs.Prelude.{◌≡◌, ℕ, Bool, ◌&&◌, not, nat_le, nat_lt, length, take, map, List, [], Option, Some, None, Result, Ok, Err}
+use Rattle.std.specs.Prelude.{◌≡◌, ℕ, Bool, ◌&&◌, not, nat_le, nat_lt, length, take, map, List, Option, Some, None, Result, Ok, Err}
 use Rattle.std.specs.List.{list_any, list_all}
 use Rattle.std.specs.Str.{bytes_eq}
 use Rattle.rw_schema.specs.declared.parts.ArrowDef.{ArrowDef}

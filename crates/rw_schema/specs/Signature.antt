@@ -1,5 +1,5 @@
 -- A schema without its names: what an instance of it depends on.
-use Rattle.std.specs.Prelude.{◌≡◌, ◌<◌, ℕ, List, [], ◌∷◌, map, length, slice_index, slice_get, Some}
+use Rattle.std.specs.Prelude.{◌≡◌, ◌<◌, ℕ, List, [], ◌∷◌, map, slice_index, slice_get, Some}
 use Rattle.rw_schema.specs.declared.ids.ArrowId.{ArrowId}
 use Rattle.rw_schema.specs.declared.parts.Equation.{Equation}
 use Rattle.rw_schema.specs.declared.signature.ArrowEnds.{ArrowEnds}
