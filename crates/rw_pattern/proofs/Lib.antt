@@ -1,0 +1,6 @@
+pub mod Entries
+pub mod Naturality
+pub mod Places
+pub mod Sequences
+pub mod Shapes
+pub mod Tuples
