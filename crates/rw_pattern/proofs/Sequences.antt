@@ -161,11 +161,11 @@ list_all_from_contained p xs each =
     list_all-from_AllPass p xs (All-weaker (Contains xs) (λ x. p x ≡ true) each xs (All-contains_itself xs))
 
 -- a map with places, with one item more
-pub map_in_more : {X A : Type 0} (f : ℕ → X → A) (xs : List X) (i : ℕ) (x : X) → i < length xs → x ≡ get_or xs i x
-    → map_in f 0 (take (i + 1) xs) ≡ map_in f 0 (take i xs) ++ f i x ∷ []
-map_in_more f xs i x within is =
+pub map_in_more : {X A : Type 0} (f : ℕ → X → A) (xs : List X) (i : ℕ) (d : X) → i < length xs
+    → map_in f 0 (take (i + 1) xs) ≡ map_in f 0 (take i xs) ++ f i (get_or xs i d) ∷ []
+map_in_more f xs i d within =
     let passed : length (take i xs) ≡ i = length-take-le i xs (omega arith) in
-    rw (take_more xs i x within, ← is, map_in_append f 0 (take i xs) (x ∷ []), passed, zero-add) refl
+    rw (take_more xs i d within, map_in_append f 0 (take i xs) (get_or xs i d ∷ []), passed, zero-add) refl
 
 -- lists joined by place, over two lists, one behind the other
 pub flat_map_in_append : {X A : Type 0} (f : ℕ → X → List A) (i : ℕ) (xs ys : List X) → flat_map_in f i (xs ++ ys) ≡ flat_map_in f i xs ++ flat_map_in f (i + length xs) ys
@@ -175,11 +175,11 @@ flat_map_in_append f i (x ∷ xs) ys =
     rw (flat_map_in_append f (i + 1) xs ys, same) (sym (append_assoc (f i x) (flat_map_in f (i + 1) xs) (flat_map_in f (i + suc (length xs)) ys)))
 
 -- lists joined by place, with one list more
-pub flat_map_in_more : {X A : Type 0} (f : ℕ → X → List A) (xs : List X) (i : ℕ) (x : X) → i < length xs → x ≡ get_or xs i x
-    → flat_map_in f 0 (take (i + 1) xs) ≡ flat_map_in f 0 (take i xs) ++ f i x
-flat_map_in_more f xs i x within is =
+pub flat_map_in_more : {X A : Type 0} (f : ℕ → X → List A) (xs : List X) (i : ℕ) (d : X) → i < length xs
+    → flat_map_in f 0 (take (i + 1) xs) ≡ flat_map_in f 0 (take i xs) ++ f i (get_or xs i d)
+flat_map_in_more f xs i d within =
     let passed : length (take i xs) ≡ i = length-take-le i xs (omega arith) in
-    rw (take_more xs i x within, ← is, flat_map_in_append f 0 (take i xs) (x ∷ []), passed, zero-add, append-nil (f i x)) refl
+    rw (take_more xs i d within, flat_map_in_append f 0 (take i xs) (get_or xs i d ∷ []), passed, zero-add, append-nil (f i (get_or xs i d))) refl
 
 -- a test of each item and its place, at the first of those that are left
 pub all_in_next : {X : Type 0} (f : ℕ → X → Bool) (xs : List X) (i : ℕ) (x : X) → i < length xs → x ≡ get_or xs i x
