@@ -1,4 +1,5 @@
 pub mod Entries
+mod Examples
 pub mod Naturality
 pub mod Places
 pub mod Sequences

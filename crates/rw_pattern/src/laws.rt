@@ -11,8 +11,8 @@ use crate::Pattern;
 
 /// The list of a pattern's matches has exactly the tuples that are natural maps, in every instance. The call does
 /// nothing: its contract is the law.
-pub fn matches_are_natural(_schema: &Schema, _pattern: &Pattern)
-    requires { pattern_fault (signature_of _schema.now) _pattern.now ≡ None }
-    ensures { MatchesAreNatural (signature_of _schema.now) _pattern.now }
+pub fn matches_are_natural(schema: &Schema, pattern: &Pattern)
+    requires { pattern_fault (signature_of schema.now) pattern.now ≡ None }
+    ensures { MatchesAreNatural (signature_of schema.now) pattern.now }
 {
 }
