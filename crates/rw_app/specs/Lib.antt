@@ -1,0 +1,5 @@
+pub mod AnswerTexts
+pub mod Answers
+pub mod Commands
+pub mod Endings
+pub mod Statuses
