@@ -1,5 +1,5 @@
 -- What holds of lists in which no fault is.
-use Rattle.std.proofs.Common.{◌≡◌, ◌==◌, ◌∙◌, ℕ, zero, suc, ◌+◌, ◌<◌, ◌≤◌, Bool, true, ◌&&◌, nat_lt, List, [], ◌∷◌, length, get_or, Option, Some, None, slice_get, slice_index, refl, sym, ap, subst, inl, inr, zero-add, add-zero, arith}
+use Rattle.std.proofs.Common.{◌≡◌, ◌==◌, ◌∙◌, ℕ, zero, suc, ◌+◌, Bool, true, nat_lt, List, [], ◌∷◌, length, Option, Some, None, slice_get, slice_index, refl, ap, subst, inl, inr, zero-add, add-zero, arith}
 use Rattle.std.specs.List.{Contains, list_any, list_all}
 use Rattle.std.proofs.lemmas.Bool.{and_parts, eqb-true, cases_lt}
 use Rattle.std.proofs.lemmas.List.{get_or_past}
@@ -12,7 +12,6 @@ use Rattle.rw_schema.proofs.Firsts.{or_else_none, first_none, passed_unless}
 use Rattle.rw_spec.specs.Distinct.{AreDistinct}
 use Rattle.rw_spec.proofs.Look.{contains_found}
 use Rattle.rw_table.specs.TableFaults.{has_length, has_shape, ascends, are_names, names_fault, row_fault, range_fault, table_fault}
-use Rattle.rw_table.specs.declared.fault.TableFault.{TableFault}
 use Rattle.rw_table.specs.declared.fault.TableFault.TheVariants.{Shape, Names, Range}
 use Rattle.rw_table.proofs.Ascending.{ascends_distinct}
 

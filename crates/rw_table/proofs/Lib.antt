@@ -1,4 +1,5 @@
 pub mod Ascending
 pub mod Checked
+mod Examples
 pub mod Places
 pub mod TableInstance

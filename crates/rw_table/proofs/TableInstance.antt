@@ -1,11 +1,14 @@
 -- Checked lists are an instance.
-use Rattle.std.proofs.Common.{◌≡◌, ◌∙◌, ℕ, List, [], Some, None, slice_get, ap, sym}
+use Rattle.std.proofs.Common.{◌≡◌, ◌==◌, ◌∙◌, ℕ, [], Some, None, IfSome, slice_get, ap, sym, subst}
+use Rattle.std.specs.List.{list_any}
+use Rattle.std.proofs.lemmas.Bool.{cond_both}
 use Rattle.rw_schema.specs.declared.signature.ArrowEnds.{ArrowEnds}
 use Rattle.rw_schema.specs.RowLists.{RowLists, list_at}
-use Rattle.rw_schema.specs.Signature.{Signature}
-use Rattle.rw_spec.specs.Instance.{Instance, Has, IsInstance, instance_of, look}
-use Rattle.rw_spec.proofs.Look.{look_contains}
+use Rattle.rw_schema.specs.Signature.{Signature, source_of}
+use Rattle.rw_spec.specs.Instance.{Has, IsInstance, instance_of, look}
+use Rattle.rw_spec.proofs.Look.{contains_found, look_contains}
 use Rattle.rw_spec.proofs.Signatures.{source_is}
+use Rattle.rw_table.specs.Tabled.{Tabled, instance_of_table, value_at}
 use Rattle.rw_table.specs.TableFaults.{table_fault}
 use Rattle.rw_table.proofs.Checked.{checked_known, row_whole, images_named}
 
@@ -33,3 +36,14 @@ table_instance C rows no_attributes no_equations none = record {
       let never : None ≡ Some equation = ap (λ list. slice_get list e) (sym no_equations) ∙ there in
       cc;
 }
+
+-- where an arrow of checked lists leads is a name of its target
+pub value_within : (table : Tabled) (a name : ℕ) (ends : ArrowEnds) → table_fault table.signature table.rows ≡ None → slice_get table.signature.arrows a ≡ Some ends
+    → IfSome (value_at table a name) (Has (instance_of_table table) ends.target.0)
+value_within table a name ends none there =
+    let names = list_at table.rows.names (source_of table.signature a) in
+    let image = (instance_of_table table).value a name in
+    cond_both (list_any (λ other. other == name) names) (Some image) None (λ found. IfSome found (Has (instance_of_table table) ends.target.0))
+      (λ among. table_functions table.signature table.rows none a ends name there
+        (subst (λ object. Has (instance_of_table table) object name) (source_is table.signature a ends there) (contains_found names name among)))
+      (λ missing. tt)

@@ -1,5 +1,5 @@
 -- Each row of lists of the right shape is whole.
-use Rattle.std.proofs.Common.{◌<◌, length, arith, slice_index_or}
+use Rattle.std.proofs.Common.{◌<◌, length, arith}
 use Rattle.std.proofs.lemmas.Option.{slice_get-get_or}
 use Rattle.rw_table.specs.Tabled.{plain_signature}
 use Rattle.rw_table.proofs.Checked.{row_whole}

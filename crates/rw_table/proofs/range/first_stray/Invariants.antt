@@ -1,5 +1,5 @@
 -- The first fault of all is the first of what is left.
-use Rattle.std.proofs.Common.{◌≡◌, ◌==◌, ℕ, drop}
+use Rattle.std.proofs.Common.{◌≡◌, ◌==◌, drop}
 use Rattle.std.specs.List.{list_any}
 use Rattle.rw_schema.specs.First.{first_in, fault_unless}
 use Rattle.rw_table.specs.declared.fault.TableFault.TheVariants.{Range}
