@@ -1,6 +1,10 @@
 //! Why a document was not read.
 
+ghost use Rattle.std.specs.Prelude.{◌≡◌};
+ghost use Rattle.rw_doc.specs.declared.end.ReadDocEnd.TheVariants.{OutOfMemory};
+
 use rw_schema::OutOfMemory;
+use std::alloc::{AllocError, AllocFailed};
 use thiserror::Error;
 
 use crate::DocFault;
@@ -15,12 +19,25 @@ pub enum ReadDocEnd {
 }
 
 impl From<OutOfMemory> for ReadDocEnd {
-    ghost use Rattle.std.specs.Prelude.{◌≡◌};
-    ghost use Rattle.rw_doc.specs.declared.end.ReadDocEnd.TheVariants.{OutOfMemory};
-
     ghost from_gives = { λ _ end. end ≡ OutOfMemory };
 
     fn from(_error: OutOfMemory) -> ReadDocEnd {
+        ReadDocEnd::OutOfMemory
+    }
+}
+
+impl From<AllocError> for ReadDocEnd {
+    ghost from_gives = { λ _ end. end ≡ OutOfMemory };
+
+    fn from(_error: AllocError) -> ReadDocEnd {
+        ReadDocEnd::OutOfMemory
+    }
+}
+
+impl<T: Drop> From<AllocFailed<T>> for ReadDocEnd {
+    ghost from_gives = { λ _ end. end ≡ OutOfMemory };
+
+    fn from(_failed: AllocFailed<T>) -> ReadDocEnd {
         ReadDocEnd::OutOfMemory
     }
 }

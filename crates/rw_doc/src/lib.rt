@@ -4,7 +4,13 @@
 mod document;
 mod end;
 mod fault;
+mod instance;
+mod json;
+mod read;
+mod schema;
+mod watches;
 
 pub use document::{Document, Watch};
 pub use end::ReadDocEnd;
 pub use fault::DocFault;
+pub use read::read_document;
