@@ -3,11 +3,10 @@
 ghost use Rattle.std.specs.Prelude.{◌≡◌};
 ghost use Rattle.rw_doc.specs.declared.end.ReadDocEnd.TheVariants.{OutOfMemory};
 
+use crate::DocFault;
 use rw_schema::OutOfMemory;
 use std::alloc::{AllocError, AllocFailed};
 use thiserror::Error;
-
-use crate::DocFault;
 
 /// Why a document was not read.
 #[derive(Clone, Copy, Debug, PartialEq, Eq, Error)]

@@ -1,19 +1,18 @@
 //! The instance of a document.
 
-ghost use Rattle.std.specs.Prelude.{◌≡◌, [], IfOk, map, option_map, replicate};
-ghost use Rattle.std.specs.List.{range_with_len};
+ghost use Rattle.std.specs.Prelude.{◌≡◌, [], IfOk, map, nat_le, option_map, replicate};
+ghost use Rattle.std.specs.List.{list_all, range_with_len};
 ghost use Rattle.serde_json.specs.View.{view};
 ghost use Rattle.rw_schema.specs.Presentation.{signature_of};
 ghost use Rattle.rw_doc.specs.Documents as spec;
 ghost use Rattle.rw_doc.specs.Gives.{Gives};
 
+use crate::ReadDocEnd;
+use crate::json::{NOT_BUILT, needed, read_count_lists, read_counts, with_keys};
 use rw_schema::{OutOfMemory, Rows, Schema};
 use rw_table::{Table, TableFault};
 use serde_json::Value;
 use std::alloc::Global;
-
-use crate::ReadDocEnd;
-use crate::json::{NOT_BUILT, needed, read_count_lists, read_counts, with_keys};
 
 /// The greatest number of parts of an object.
 const MOST_PARTS: u32 = 1_000_000;
@@ -22,7 +21,10 @@ const MOST_PARTS: u32 = 1_000_000;
 fn names_below(alloc: Global, count: u32) -> Result<Vec<u32>, OutOfMemory>
     ensures { IfOk result (λ names. names.items ≡ range_with_len 0 count) }
 {
-    let names = (0..count).collect(alloc)?;
+    let mut names = Vec::new(alloc);
+    for name in 0..count {
+        names.push(name)?;
+    }
     Ok(names)
 }
 
@@ -50,7 +52,12 @@ fn table_of(alloc: Global, schema: &Schema, rows: Rows) -> Result<Table, ReadDoc
 }
 
 /// The instance with so many parts of each object and these images.
-fn instance_of(alloc: Global, schema: &Schema, parts: Vec<u32>, arrows: Vec<Vec<u32>>) -> Result<Table, ReadDocEnd>
+fn instance_of(
+    alloc: Global,
+    schema: &Schema,
+    parts: Vec<u32>,
+    arrows: Vec<Vec<u32>>,
+) -> Result<Table, ReadDocEnd>
     ensures { Gives (λ table. table) result
         (spec.table_of (signature_of schema.now) (spec.rows_of parts.items (map (λ row. row.items) arrows.items))) }
 {
@@ -58,11 +65,18 @@ fn instance_of(alloc: Global, schema: &Schema, parts: Vec<u32>, arrows: Vec<Vec<
     table_of(alloc, schema, Rows::from_lists(names, arrows, parts))
 }
 
+/// Whether no count is too large.
+fn are_few(parts: &[u32]) -> bool
+    ensures { result ≡ list_all (λ count. nat_le count 1000000) parts.now }
+{
+    parts.iter().all(|count| *count <= MOST_PARTS)
+}
+
 /// Whether there is one count for each object, none of them too large.
 fn are_part_counts(schema: &Schema, parts: &[u32]) -> bool
     ensures { result ≡ spec.are_part_counts (signature_of schema.now) parts.now }
 {
-    parts.len() == schema.objects() && parts.iter().all(|count| *count <= MOST_PARTS)
+    parts.len() == schema.objects() && are_few(parts)
 }
 
 fn read_parts(alloc: Global, schema: &Schema, value: &Value) -> Result<Vec<u32>, ReadDocEnd>
@@ -98,7 +112,7 @@ fn empty_rows(alloc: Global, count: usize) -> Result<Vec<Vec<u32>>, OutOfMemory>
     ensures { IfOk result (λ rows. map (λ row. row.items) rows.items ≡ replicate count []) }
 {
     let mut rows = Vec::new(alloc);
-    for _ in 0..count {
+    for _place in 0..count {
         rows.push(Vec::new(alloc))?;
     }
     Ok(rows)
@@ -122,8 +136,12 @@ fn empty_instance(alloc: Global, schema: &Schema) -> Result<Table, ReadDocEnd>
 }
 
 /// The instance that is written, or the one without a part.
-pub(crate) fn instance_or_none(alloc: Global, schema: &Schema, value: Option<&Value>) -> Result<Table, ReadDocEnd>
-    ensures { Gives (λ table. table) result (spec.instance_or_none (signature_of schema.now) (option_map (λ value. view value.now) value)) }
+pub(crate) fn instance_or_none(
+    alloc: Global,
+    schema: &Schema,
+    value: Option<&Value>,
+) -> Result<Table, ReadDocEnd>
+    ensures { Gives (λ table. table) result (spec.instance_or_none (signature_of schema.now) (option_map (λ value. view value.now) value.entry)) }
 {
     match value {
         Some(value) => read_instance(alloc, schema, value),

@@ -3,17 +3,17 @@
 ghost use Rattle.std.specs.Prelude.{◌≡◌, ◌≤◌, IfOk, length, map, string_bytes};
 ghost use Rattle.std.specs.List.{list_all, list_any};
 ghost use Rattle.std.specs.Str.{bytes_eq};
+ghost use Rattle.std.specs.BTreeMap.{keys};
 ghost use Rattle.serde_json.specs.View.{view};
 ghost use Rattle.rw_doc.specs.Chain.{each_in};
 ghost use Rattle.rw_doc.specs.Documents as spec;
 ghost use Rattle.rw_doc.specs.Gives.{Gives};
 ghost use Rattle.rw_doc.specs.Json.{as_count, has_only};
 
+use crate::{DocFault, ReadDocEnd};
 use rw_schema::{Section, Text};
 use serde_json::{Map, Value};
 use std::alloc::Global;
-
-use crate::{DocFault, ReadDocEnd};
 
 /// The end of a reading whose value is no document of the form that is read so far.
 pub(crate) const NOT_BUILT: ReadDocEnd = ReadDocEnd::Refused(DocFault {
@@ -25,34 +25,34 @@ pub(crate) const NOT_BUILT: ReadDocEnd = ReadDocEnd::Refused(DocFault {
 });
 
 /// Whether the key is one of these.
-fn is_among(keys: &[&str], key: &str) -> bool
-    ensures { result ≡ list_any (λ other. bytes_eq key.now other.now) keys.now }
+fn is_among(allowed: &[&str], key: &str) -> bool
+    ensures { result ≡ list_any (λ other. bytes_eq key.now other.now) allowed.now }
 {
-    keys.iter().any(|other| key == *other)
+    allowed.iter().any(|other| key == *other)
 }
 
 /// Whether the members have no other keys than these.
-fn are_among(keys: &[&str], members: &Map<String, Value>) -> bool
-    ensures { result ≡ list_all (λ entry. list_any (λ other. bytes_eq (string_bytes entry.0) other.now) keys.now) members.now.entries }
+fn are_among(allowed: &[&str], members: &Map<String, Value>) -> bool
+    ensures { result ≡ list_all (λ key. list_any (λ other. bytes_eq (string_bytes key) other.now) allowed.now) (keys members.now) }
 {
-    members.keys().all(|key| is_among(keys, key.as_str()))
+    members.keys().all(|key| is_among(allowed, key.as_str()))
 }
 
 /// Whether the value is an object with no other keys than these.
-fn has_only(keys: &[&str], value: &Value) -> bool
-    ensures { result ≡ has_only (map (λ key. key.now) keys.now) (view value.now) }
+fn has_only(allowed: &[&str], value: &Value) -> bool
+    ensures { result ≡ has_only (map (λ key. key.now) allowed.now) (view value.now) }
 {
     match value.as_object() {
-        Some(members) => are_among(keys, members),
+        Some(members) => are_among(allowed, members),
         None => false,
     }
 }
 
 /// Passes where the value is an object with no other keys than these.
-pub(crate) fn with_keys(keys: &[&str], value: &Value) -> Result<(), ReadDocEnd>
-    ensures { Gives (λ _. view value.now) result (spec.with_keys (map (λ key. key.now) keys.now) (view value.now)) }
+pub(crate) fn with_keys(allowed: &[&str], value: &Value) -> Result<(), ReadDocEnd>
+    ensures { Gives (λ _. view value.now) result (spec.with_keys (map (λ key. key.now) allowed.now) (view value.now)) }
 {
-    if has_only(keys, value) {
+    if has_only(allowed, value) {
         Ok(())
     } else {
         Err(NOT_BUILT)

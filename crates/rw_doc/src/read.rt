@@ -8,16 +8,15 @@ ghost use Rattle.rw_doc.specs.Documents as spec;
 ghost use Rattle.rw_doc.specs.Gives.{Gives};
 ghost use Rattle.rw_doc.specs.Models.{document_lists};
 
-use rw_schema::Section;
-use serde_json::Value;
-use std::alloc::Global;
-use std::str;
-
 use crate::instance::instance_or_none;
 use crate::json::{NOT_BUILT, needed, read_count, with_keys};
 use crate::schema::read_schema;
 use crate::watches::watches_or_none;
 use crate::{DocFault, Document, ReadDocEnd};
+use rw_schema::Section;
+use serde_json::Value;
+use std::alloc::Global;
+use std::str;
 
 /// The format that is read.
 const FORMAT: u32 = 1;

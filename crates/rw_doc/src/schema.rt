@@ -7,12 +7,11 @@ ghost use Rattle.rw_doc.specs.Chain.{each_in};
 ghost use Rattle.rw_doc.specs.Documents as spec;
 ghost use Rattle.rw_doc.specs.Gives.{Gives};
 
+use crate::ReadDocEnd;
+use crate::json::{NOT_BUILT, needed, read_at_most, read_items, read_str, read_text, with_keys};
 use rw_schema::{ArrowDef, ObjectId, Schema, SchemaFault, SchemaParts, Text};
 use serde_json::Value;
 use std::alloc::Global;
-
-use crate::ReadDocEnd;
-use crate::json::{NOT_BUILT, needed, read_at_most, read_items, read_str, read_text, with_keys};
 
 /// The greatest number of objects.
 const MOST_OBJECTS: usize = 64;

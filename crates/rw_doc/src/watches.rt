@@ -10,14 +10,13 @@ ghost use Rattle.rw_doc.specs.Chain.{each_in};
 ghost use Rattle.rw_doc.specs.Documents as spec;
 ghost use Rattle.rw_doc.specs.Gives.{Gives};
 
+use crate::instance::read_rows;
+use crate::json::{NOT_BUILT, needed, read_at_most, read_counts, read_text, with_keys};
+use crate::{ReadDocEnd, Watch};
 use rw_pattern::{Pattern, PatternFault, PatternParts};
 use rw_schema::{Schema, Text};
 use serde_json::Value;
 use std::alloc::Global;
-
-use crate::instance::read_rows;
-use crate::json::{NOT_BUILT, needed, read_at_most, read_counts, read_text, with_keys};
-use crate::{ReadDocEnd, Watch};
 
 /// The greatest number of watches.
 const MOST_WATCHES: usize = 64;
@@ -26,7 +25,12 @@ const MOST_WATCHES: usize = 64;
 const LONGEST_NAME: usize = 255;
 
 /// The pattern of the lists.
-fn pattern_of(alloc: Global, schema: &Schema, sizes: Vec<u32>, rows: Vec<Vec<u32>>) -> Result<Pattern, ReadDocEnd>
+fn pattern_of(
+    alloc: Global,
+    schema: &Schema,
+    sizes: Vec<u32>,
+    rows: Vec<Vec<u32>>,
+) -> Result<Pattern, ReadDocEnd>
     ensures { Gives (λ pattern. pattern) result (spec.pattern_of (signature_of schema.now) sizes.items (map (λ row. row.items) rows.items)) }
 {
     match Pattern::build(alloc, schema, PatternParts { sizes, rows }) {
@@ -132,8 +136,12 @@ fn read_watches(alloc: Global, schema: &Schema, value: &Value) -> Result<Vec<Wat
 }
 
 /// The watches that are written, or none.
-pub(crate) fn watches_or_none(alloc: Global, schema: &Schema, value: Option<&Value>) -> Result<Vec<Watch>, ReadDocEnd>
-    ensures { Gives (λ watches. watches.items) result (spec.watches_or_none (signature_of schema.now) (option_map (λ value. view value.now) value)) }
+pub(crate) fn watches_or_none(
+    alloc: Global,
+    schema: &Schema,
+    value: Option<&Value>,
+) -> Result<Vec<Watch>, ReadDocEnd>
+    ensures { Gives (λ watches. watches.items) result (spec.watches_or_none (signature_of schema.now) (option_map (λ value. view value.now) value.entry)) }
 {
     match value {
         Some(value) => read_watches(alloc, schema, value),

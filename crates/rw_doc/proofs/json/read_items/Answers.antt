@@ -1,5 +1,5 @@
 -- The items of an array are the list's values.
-use Rattle.std.proofs.Common.{◌≡◌, ◌∙◌, Ok, map, ap, sym}
+use Rattle.std.proofs.Common.{Ok, map, ap}
 use Rattle.serde_json.specs.View.{view}
 use Rattle.rw_doc.proofs.Readings.{list_of_items}
 use Rattle.rw_doc.proofs.json.read_items.Goals as goal
