@@ -1,6 +1,6 @@
 //! The lists of an instance.
 
-ghost use Rattle.std.specs.Prelude.{◌≡◌, ◌<◌, [], length, map, slice_get, slice_index, Some};
+ghost use Rattle.std.specs.Prelude.{◌≡◌, ◌<◌, ◌↔◌, IsTrue, [], length, map, slice_get, slice_index, Some};
 ghost use Rattle.rw_schema.specs.RowLists.{RowLists, list_at};
 
 use crate::{ArrowId, ObjectId};
@@ -90,4 +90,20 @@ impl Rows {
     {
         self.next.len()
     }
+
+    /// Whether all lists of both are equal.
+    pub fn same(&self, other: &Rows) -> bool
+        ensures { IsTrue result ↔ (self.now ≡ other.now) }
+    {
+        are_equal(self.names.as_slice(), other.names.as_slice())
+            && are_equal(self.arrows.as_slice(), other.arrows.as_slice())
+            && self.next == other.next
+    }
+}
+
+/// Whether the lists of both are equal.
+fn are_equal(left: &[Vec<u32>], right: &[Vec<u32>]) -> bool
+    ensures { IsTrue result ↔ (map (λ list. list.items) left.now ≡ map (λ list. list.items) right.now) }
+{
+    left == right
 }

@@ -132,6 +132,7 @@ impl Schema {
         ensures objects { length self.now.objects ≤ 64 }
         ensures ends { list_all (has_ends (length self.now.objects)) self.now.arrows ≡ true }
         ensures category { IsCategory (signature_of self.now) }
+        ensures plain { (self.now.attributes ≡ []) × (self.now.equations ≡ []) }
     {
         self.arrows.as_slice()
     }

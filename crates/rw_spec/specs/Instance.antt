@@ -1,6 +1,6 @@
 -- Instances of a schema as the field has them: a set of names for each object, a function for each arrow, a cell
 -- for each name of an attribute's object.
-use Rattle.std.specs.Prelude.{◌≡◌, ◌==◌, ◌<◌, ℕ, cond, List, [], ◌∷◌, Option, Some, None, Contains, slice_get}
+use Rattle.std.specs.Prelude.{◌≡◌, ◌==◌, ℕ, cond, List, [], ◌∷◌, Option, Some, None, Contains, slice_get}
 use Rattle.rw_schema.specs.declared.atom.Atom.{Atom}
 use Rattle.rw_schema.specs.declared.atom.Atom.TheVariants as atoms
 use Rattle.rw_schema.specs.declared.atom.Kind.{Kind}

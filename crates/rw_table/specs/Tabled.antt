@@ -1,6 +1,7 @@
 -- A table as contracts see it: the lists of an instance, with the schema that they are over, names apart.
-use Rattle.std.specs.Prelude.{◌≡◌, ◌==◌, ℕ, if◌then◌else◌, Option, Some, None}
+use Rattle.std.specs.Prelude.{◌≡◌, ◌==◌, ℕ, if◌then◌else◌, List, [], Option, Some, None}
 use Rattle.std.specs.List.{list_any}
+use Rattle.rw_schema.specs.declared.signature.ArrowEnds.{ArrowEnds}
 use Rattle.rw_schema.specs.Presentation.{Presentation, signature_of}
 use Rattle.rw_schema.specs.RowLists.{RowLists, list_at}
 use Rattle.rw_schema.specs.Signature.{Signature, source_of}
@@ -9,6 +10,10 @@ use Rattle.rw_spec.specs.Instance.{Instance, instance_of}
 pub record Tabled : Type 0 where
   pub signature : Signature
   pub rows : RowLists
+
+-- a schema of objects and arrows alone
+abbrev pub plain_signature : ℕ → List ArrowEnds → Signature
+plain_signature objects arrows = record { objects = objects; arrows = arrows; attributes = []; equations = [] }
 
 -- the instance that a table stands for
 abbrev pub instance_of_table : Tabled → Instance

@@ -1,0 +1,4 @@
+pub mod Ascending
+pub mod Checked
+pub mod Places
+pub mod TableInstance

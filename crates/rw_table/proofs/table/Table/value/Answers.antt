@@ -1,0 +1,22 @@
+-- The names of the source ascend, and the row is beside them.
+use Rattle.std.proofs.Common.{◌<◌, ◌≡◌, length, refl, Some, slice_get}
+use Rattle.std.proofs.lemmas.Option.{slice_get_read}
+use Rattle.rw_table.specs.Tabled.{plain_signature}
+use Rattle.rw_table.proofs.Checked.{checked_known, names_ascend, row_whole}
+use Rattle.rw_table.proofs.table.Table.value.Goals as goal
+
+pub entry_beside-requires-clause-ascend : goal.entry_beside-requires-clause-ascend
+entry_beside-requires-clause-ascend c =
+    let table = c.self.inside in
+    let C = plain_signature (length table.rows.names) table.arrows.items in
+    rw c.names.ensures (names_ascend table.rows c.index.result.now.source.0 (checked_known C table.rows c.self.invariant.1).names)
+
+pub entry_beside-requires-clause-beside : goal.entry_beside-requires-clause-beside
+entry_beside-requires-clause-beside c =
+    let table = c.self.inside in
+    let C = plain_signature (length table.rows.names) table.arrows.items in
+    let within : c.args.arrow.0 < length table.arrows.items = rw (← c.self.view_is) at c.requires in
+    let there : slice_get table.arrows.items c.args.arrow.0 ≡ Some c.index.result.now =
+        slice_get_read table.arrows.items (length table.arrows.items) c.args.arrow.0 c.index.result.now refl within c.index.ensures in
+    rw (c.row.ensures, c.names.ensures)
+    (row_whole C table.rows c.args.arrow.0 c.index.result.now (checked_known C table.rows c.self.invariant.1).shape there)
