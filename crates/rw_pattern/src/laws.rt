@@ -15,5 +15,4 @@ pub fn matches_are_natural(schema: &Schema, pattern: &Pattern)
     requires { pattern_fault (signature_of schema.now) pattern.now ≡ None }
     ensures { MatchesAreNatural (signature_of schema.now) pattern.now }
 {
-    let _ = (schema, pattern);
 }

@@ -1,0 +1,7 @@
+pub mod Entries
+mod Examples
+pub mod Naturality
+pub mod Places
+pub mod Sequences
+pub mod Shapes
+pub mod Tuples
