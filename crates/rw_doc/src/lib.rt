@@ -8,6 +8,8 @@ mod instance;
 mod json;
 mod read;
 mod schema;
+#[cfg(test)]
+mod tests;
 mod watches;
 
 pub use document::{Document, Watch};
