@@ -35,12 +35,15 @@ fn whole(code: u8) -> Option<DocFault> {
 #[test]
 fn reads_a_graph(rt: HostRuntime) -> Result<(), Fail> {
     let document = read_document(rt.alloc(), GRAPH.as_bytes())?;
-    assert!(rt; document.schema.objects() == 2 && document.schema.arrows() == 2);
+    assert_eq!(rt; document.schema.objects(), 2);
+    assert_eq!(rt; document.schema.arrows(), 2);
     assert!(rt; document.schema.object(E).as_str() == "E");
     let target = document.schema.arrow(TGT);
     assert!(rt; target.name.as_str() == "tgt" && target.source == E && target.target == V);
     let rows = document.table.rows();
-    assert!(rt; rows.name_lists() == 2 && rows.row_lists() == 2 && rows.next_names() == 2);
+    assert_eq!(rt; rows.name_lists(), 2);
+    assert_eq!(rt; rows.row_lists(), 2);
+    assert_eq!(rt; rows.next_names(), 2);
     assert!(rt; rows.names(V) == [0u32, 1].as_slice() && rows.names(E) == [0u32].as_slice());
     assert!(rt; rows.row(SRC) == [1u32].as_slice() && rows.row(TGT) == [0u32].as_slice());
     assert!(rt; rows.next(V) == 2 && rows.next(E) == 1);
@@ -56,7 +59,9 @@ fn reads_no_instance(rt: HostRuntime) -> Result<(), Fail> {
         "{\"format\": 1, \"schema\": {\"objects\": [\"V\", \"E\"], \"arrows\": [[\"src\", \"E\", \"V\"], [\"tgt\", \"E\", \"V\"]]}}";
     let document = read_document(rt.alloc(), text.as_bytes())?;
     let rows = document.table.rows();
-    assert!(rt; rows.name_lists() == 2 && rows.row_lists() == 2 && rows.next_names() == 2);
+    assert_eq!(rt; rows.name_lists(), 2);
+    assert_eq!(rt; rows.row_lists(), 2);
+    assert_eq!(rt; rows.next_names(), 2);
     assert!(rt; rows.names(V).is_empty() && rows.row(TGT).is_empty() && rows.next(E) == 0);
     assert!(rt; document.watches.is_empty());
     Ok(())
