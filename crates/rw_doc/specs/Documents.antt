@@ -1,9 +1,8 @@
 -- The model of a document, or its first fault, over the JSON value that its bytes are. The sections are read in the
 -- order in which they stand here.
-use Rattle.std.specs.Prelude.{◌==◌, ℕ, Bool, not, ◌&&◌, nat_le, length, map, take, codes, List, [], ◌∷◌, Option, Some, None, Result, Ok, Err, if◌then◌else◌, position}
+use Rattle.std.specs.Prelude.{◌==◌, ℕ, Bool, not, ◌&&◌, nat_le, length, map, take, codes, replicate, List, [], ◌∷◌, Option, Some, None, Result, Ok, Err, if◌then◌else◌, position}
 use Rattle.std.specs.List.{list_all, list_any, range_with_len}
 use Rattle.std.specs.Str.{bytes_eq, is_utf8}
-use Rattle.std.proofs.Math.ListN.{replicate}
 use Rattle.serde_json.specs.Data.{Data}
 use Rattle.serde_json.specs.Find.{as_str, get}
 use Rattle.serde_json.specs.Read.{read}
@@ -91,10 +90,13 @@ read_arrows objects schema = and_then (needed (codes "arrows") schema) (λ value
 abbrev pub presentation : List (List ℕ) → List ArrowDef → Presentation
 presentation objects arrows = record { objects = objects; arrows = arrows; attributes = []; equations = [] }
 
+-- the schema of the lists, where they are one
+abbrev pub schema_of : List (List ℕ) → List ArrowDef → Result Presentation DocFault
+schema_of objects arrows = sound not_built (schema_fault (presentation objects arrows)) (presentation objects arrows)
+
 abbrev pub read_schema : Data → Result Presentation DocFault
 read_schema value = and_then (with_keys (codes "arrows" ∷ codes "objects" ∷ []) value) (λ value.
-    and_then (read_objects value) (λ objects. and_then (read_arrows objects value) (λ arrows.
-    let schema = presentation objects arrows in sound not_built (schema_fault schema) schema)))
+    and_then (read_objects value) (λ objects. and_then (read_arrows objects value) (λ arrows. schema_of objects arrows)))
 
 -- ---- the instance
 
@@ -112,6 +114,7 @@ read_parts C value = and_then (needed (codes "parts") value) (λ value. and_then
 abbrev pub read_rows : Data → Result (List (List ℕ)) DocFault
 read_rows value = and_then (needed (codes "rows") value) read_count_lists
 
+-- the instance with the lists, where they are one
 abbrev pub table_of : Signature → RowLists → Result Tabled DocFault
 table_of C rows = sound not_built (table_fault C rows) (record { signature = C; rows = rows })
 
@@ -119,28 +122,49 @@ abbrev pub read_instance : Signature → Data → Result Tabled DocFault
 read_instance C value = and_then (with_keys (codes "parts" ∷ codes "rows" ∷ []) value) (λ value.
     and_then (read_parts C value) (λ parts. and_then (read_rows value) (λ rows. table_of C (rows_of parts rows))))
 
+-- the instance without a part
+abbrev pub empty_instance : Signature → Result Tabled DocFault
+empty_instance C = table_of C (rows_of (replicate C.objects 0) (replicate (length C.arrows) []))
+
 -- where no instance is written, no object has a part
 abbrev pub instance_or_none : Signature → Option Data → Result Tabled DocFault
-instance_or_none C None = table_of C (rows_of (replicate C.objects 0) (replicate (length C.arrows) []))
+instance_or_none C None = empty_instance C
 instance_or_none C (Some value) = read_instance C value
 
 -- ---- the watches
 
+abbrev pub pattern_lists : List ℕ → List (List ℕ) → PatternLists
+pattern_lists sizes rows = record { sizes = sizes; rows = rows }
+
+-- the pattern of the lists, where they are one
+abbrev pub pattern_of : Signature → List ℕ → List (List ℕ) → Result PatternLists DocFault
+pattern_of C sizes rows = sound not_built (pattern_fault C (pattern_lists sizes rows)) (pattern_lists sizes rows)
+
+abbrev pub read_sizes : Data → Result (List ℕ) DocFault
+read_sizes value = and_then (needed (codes "parts") value) read_counts
+
 abbrev pub read_pattern : Signature → Data → Result PatternLists DocFault
 read_pattern C value = and_then (with_keys (codes "parts" ∷ codes "rows" ∷ []) value) (λ value.
-    and_then (needed (codes "parts") value) (λ parts. and_then (read_counts parts) (λ sizes. and_then (read_rows value) (λ rows.
-    let pattern : PatternLists = record { sizes = sizes; rows = rows } in sound not_built (pattern_fault C pattern) pattern))))
+    and_then (read_sizes value) (λ sizes. and_then (read_rows value) (λ rows. pattern_of C sizes rows)))
+
+-- the name itself, of 1 to 255 bytes
+abbrev pub checked_name : List ℕ → Result (List ℕ) DocFault
+checked_name name = passes not_built (is_name name) name
 
 abbrev pub read_name : Data → Result (List ℕ) DocFault
-read_name value = and_then (needed (codes "name") value) (λ value. and_then (read_text value) (λ name. passes not_built (is_name name) name))
+read_name value = and_then (needed (codes "name") value) (λ value. and_then (read_text value) checked_name)
 
 abbrev pub read_watch : Signature → Data → Result Watch DocFault
 read_watch C value = and_then (with_keys (codes "name" ∷ codes "pattern" ∷ []) value) (λ value. and_then (read_name value) (λ name.
     and_then (needed (codes "pattern") value) (λ value. and_then (read_pattern C value) (λ pattern. Ok (record { name = name; pattern = pattern })))))
 
+-- no watch before the place has the watch's name
+abbrev pub is_new : List Watch → ℕ → Watch → Bool
+is_new watches place watch = not (list_any (λ other. bytes_eq watch.name other.name) (take place watches))
+
 -- no watch has the name of an earlier one
 abbrev pub are_apart : List Watch → Bool
-are_apart watches = all_in (λ place watch. not (list_any (λ other. bytes_eq watch.name other.name) (take place watches))) 0 watches
+are_apart watches = all_in (is_new watches) 0 watches
 
 abbrev pub read_watches : Signature → Data → Result (List Watch) DocFault
 read_watches C value = and_then (read_at_most 64 value) (λ items.

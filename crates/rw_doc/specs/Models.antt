@@ -1,8 +1,7 @@
 -- What a document says, as contracts see it.
-use Rattle.std.specs.Prelude.{ℕ, List, map}
+use Rattle.std.specs.Prelude.{List}
 use Rattle.rw_schema.specs.Presentation.{Presentation}
 use Rattle.rw_table.specs.Tabled.{Tabled}
-use Rattle.rw_pattern.specs.PatternLists.{PatternLists}
 use Rattle.rw_doc.specs.declared.document.Document.{Document}
 use Rattle.rw_doc.specs.declared.document.Watch.{Watch}
 

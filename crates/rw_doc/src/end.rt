@@ -1,9 +1,12 @@
 //! Why a document was not read.
 
-use rw_schema::OutOfMemory;
-use thiserror::Error;
+ghost use Rattle.std.specs.Prelude.{◌≡◌};
+ghost use Rattle.rw_doc.specs.declared.end.ReadDocEnd.TheVariants.{OutOfMemory};
 
 use crate::DocFault;
+use rw_schema::OutOfMemory;
+use std::alloc::{AllocError, AllocFailed};
+use thiserror::Error;
 
 /// Why a document was not read.
 #[derive(Clone, Copy, Debug, PartialEq, Eq, Error)]
@@ -15,12 +18,25 @@ pub enum ReadDocEnd {
 }
 
 impl From<OutOfMemory> for ReadDocEnd {
-    ghost use Rattle.std.specs.Prelude.{◌≡◌};
-    ghost use Rattle.rw_doc.specs.declared.end.ReadDocEnd.TheVariants.{OutOfMemory};
-
     ghost from_gives = { λ _ end. end ≡ OutOfMemory };
 
     fn from(_error: OutOfMemory) -> ReadDocEnd {
+        ReadDocEnd::OutOfMemory
+    }
+}
+
+impl From<AllocError> for ReadDocEnd {
+    ghost from_gives = { λ _ end. end ≡ OutOfMemory };
+
+    fn from(_error: AllocError) -> ReadDocEnd {
+        ReadDocEnd::OutOfMemory
+    }
+}
+
+impl<T: Drop> From<AllocFailed<T>> for ReadDocEnd {
+    ghost from_gives = { λ _ end. end ≡ OutOfMemory };
+
+    fn from(_failed: AllocFailed<T>) -> ReadDocEnd {
         ReadDocEnd::OutOfMemory
     }
 }

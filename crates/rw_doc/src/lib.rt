@@ -4,7 +4,15 @@
 mod document;
 mod end;
 mod fault;
+mod instance;
+mod json;
+mod read;
+mod schema;
+#[cfg(test)]
+mod tests;
+mod watches;
 
 pub use document::{Document, Watch};
 pub use end::ReadDocEnd;
 pub use fault::DocFault;
+pub use read::read_document;

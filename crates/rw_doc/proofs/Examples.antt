@@ -1,0 +1,59 @@
+-- A document, and what it says.
+use Rattle.std.proofs.Common.{◌≡◌, ℕ, Ok, Err, List, [], ◌∷◌, codes, refl}
+use Rattle.serde_json.specs.Data.{Data, number, unsigned, string, array, object, no_members, member}
+use Rattle.serde_json.specs.View.{items_of}
+use Rattle.rw_schema.specs.Presentation.{Presentation, signature_of}
+use Rattle.rw_schema.specs.RowLists.{RowLists}
+use Rattle.rw_doc.specs.Models.{DocumentLists}
+use Rattle.rw_doc.specs.Documents.{not_built, presentation, pattern_lists, read_value}
+
+abbrev pub list : List Data → Data
+list values = array (items_of values)
+
+abbrev pub count : ℕ → Data
+count n = number (unsigned n)
+
+-- vertices and edges with a source and a target
+abbrev pub graphs : Data
+graphs = object (member (codes "arrows") (list (
+    list (string (codes "src") ∷ string (codes "E") ∷ string (codes "V") ∷ [])
+    ∷ list (string (codes "tgt") ∷ string (codes "E") ∷ string (codes "V") ∷ []) ∷ []))
+    (member (codes "objects") (list (string (codes "V") ∷ string (codes "E") ∷ [])) no_members))
+
+-- two vertices and an edge, from the first to the second or from the second to the first
+abbrev pub edge : ℕ → ℕ → Data
+edge source target = object (member (codes "parts") (list (count 2 ∷ count 1 ∷ []))
+    (member (codes "rows") (list (list (count source ∷ []) ∷ list (count target ∷ []) ∷ [])) no_members))
+
+-- a graph with an edge from its second vertex to its first, and one watch
+abbrev pub document : ℕ → Data
+document format = object (member (codes "format") (count format) (member (codes "instance") (edge 1 0) (member (codes "schema") graphs
+    (member (codes "watches") (list (object (member (codes "name") (string (codes "edge")) (member (codes "pattern") (edge 0 1) no_members)) ∷ [])) no_members))))
+
+abbrev pub graph_schema : Presentation
+graph_schema = presentation (codes "V" ∷ codes "E" ∷ [])
+    (record { name = codes "src"; source = record { 0 = 1 }; target = record { 0 = 0 } }
+    ∷ record { name = codes "tgt"; source = record { 0 = 1 }; target = record { 0 = 0 } } ∷ [])
+
+abbrev pub graph_rows : RowLists
+graph_rows = record {
+  names = (0 ∷ 1 ∷ []) ∷ (0 ∷ []) ∷ [];
+  arrows = (1 ∷ []) ∷ (0 ∷ []) ∷ [];
+  cells = [];
+  next = 2 ∷ 1 ∷ [];
+}
+
+abbrev pub graph_lists : DocumentLists
+graph_lists = record {
+  schema = graph_schema;
+  table = record { signature = signature_of graph_schema; rows = graph_rows };
+  watches = record { name = codes "edge"; pattern = pattern_lists (2 ∷ 1 ∷ []) ((0 ∷ []) ∷ (1 ∷ []) ∷ []) } ∷ [];
+}
+
+-- the graph is read as it is written
+pub reads_a_graph : read_value (document 1) ≡ Ok graph_lists
+reads_a_graph = refl
+
+-- another format is not read
+pub refuses_format_2 : read_value (document 2) ≡ Err not_built
+refuses_format_2 = refl

@@ -1,0 +1,8 @@
+-- All watches are apart where those that are left are.
+use Rattle.std.proofs.Common.{◌≡◌, drop}
+use Rattle.rw_schema.specs.First.{all_in}
+use Rattle.rw_doc.specs.Documents as spec
+use Rattle.rw_doc.proofs.watches.are_apart.Given as goal
+
+abbrev pub invariant-loop-place : goal.invariant-loop-place
+invariant-loop-place l = spec.are_apart l.watches ≡ all_in (spec.is_new l.watches) l.place (drop l.place l.watches)

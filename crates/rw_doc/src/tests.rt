@@ -1,0 +1,108 @@
+use crate::{DocFault, ReadDocEnd, read_document};
+use rw_schema::{ArrowId, ObjectId, Section};
+use std::alloc::Global;
+use std::test::Fail;
+
+/// A graph: two vertices, and an edge from the second to the first. The watch is an edge.
+const GRAPH: &str =
+    "{\"format\": 1, \"schema\": {\"objects\": [\"V\", \"E\"], \"arrows\": [[\"src\", \"E\", \"V\"], [\"tgt\", \"E\", \"V\"]]}, \"instance\": {\"parts\": [2, 1], \"rows\": [[1], [0]]}, \"watches\": [{\"name\": \"edge\", \"pattern\": {\"parts\": [2, 1], \"rows\": [[0], [1]]}}]}";
+
+const V: ObjectId = ObjectId(0);
+
+const E: ObjectId = ObjectId(1);
+
+const SRC: ArrowId = ArrowId(0);
+
+const TGT: ArrowId = ArrowId(1);
+
+fn refusal(alloc: Global, bytes: &[u8]) -> Option<DocFault> {
+    match read_document(alloc, bytes) {
+        Err(ReadDocEnd::Refused(fault)) => Some(fault),
+        Err(ReadDocEnd::OutOfMemory) | Ok(_) => None,
+    }
+}
+
+fn whole(code: u8) -> Option<DocFault> {
+    Some(DocFault {
+        code,
+        section: Section::Whole,
+        first: 0,
+        second: 0,
+        third: 0,
+    })
+}
+
+#[test]
+fn reads_a_graph(rt: HostRuntime) -> Result<(), Fail> {
+    let document = read_document(rt.alloc(), GRAPH.as_bytes())?;
+    assert_eq!(rt; document.schema.objects(), 2);
+    assert_eq!(rt; document.schema.arrows(), 2);
+    assert!(rt; document.schema.object(E).as_str() == "E");
+    let target = document.schema.arrow(TGT);
+    assert!(rt; target.name.as_str() == "tgt" && target.source == E && target.target == V);
+    let rows = document.table.rows();
+    assert_eq!(rt; rows.name_lists(), 2);
+    assert_eq!(rt; rows.row_lists(), 2);
+    assert_eq!(rt; rows.next_names(), 2);
+    assert!(rt; rows.names(V) == [0u32, 1].as_slice() && rows.names(E) == [0u32].as_slice());
+    assert!(rt; rows.row(SRC) == [1u32].as_slice() && rows.row(TGT) == [0u32].as_slice());
+    assert!(rt; rows.next(V) == 2 && rows.next(E) == 1);
+    assert_eq!(rt; document.watches.len(), 1);
+    let watch = &document.watches[0];
+    assert!(rt; watch.name.as_str() == "edge" && watch.pattern.len() == 3);
+    Ok(())
+}
+
+#[test]
+fn reads_no_instance(rt: HostRuntime) -> Result<(), Fail> {
+    let text =
+        "{\"format\": 1, \"schema\": {\"objects\": [\"V\", \"E\"], \"arrows\": [[\"src\", \"E\", \"V\"], [\"tgt\", \"E\", \"V\"]]}}";
+    let document = read_document(rt.alloc(), text.as_bytes())?;
+    let rows = document.table.rows();
+    assert_eq!(rt; rows.name_lists(), 2);
+    assert_eq!(rt; rows.row_lists(), 2);
+    assert_eq!(rt; rows.next_names(), 2);
+    assert!(rt; rows.names(V).is_empty() && rows.row(TGT).is_empty() && rows.next(E) == 0);
+    assert!(rt; document.watches.is_empty());
+    Ok(())
+}
+
+#[test]
+fn refuses(rt: HostRuntime) -> Result<(), Fail> {
+    let alloc = rt.alloc();
+    assert!(rt; refusal(alloc, &[255]) == whole(1));
+    for (text, code) in [
+        ("{\"format\": 1, \"schema\": {\"obj", 1),
+        (
+            "{\"format\": 1, \"schema\": {\"objects\": [], \"arrows\": []}, \"rules\": []}",
+            16,
+        ),
+        (
+            "{\"format\": 1, \"schema\": {\"objects\": [], \"arrows\": [], \"attributes\": []}}",
+            16,
+        ),
+        (
+            "{\"format\": 2, \"schema\": {\"objects\": [], \"arrows\": []}}",
+            16,
+        ),
+        (
+            "{\"format\": 1, \"schema\": {\"objects\": [\"V\"], \"arrows\": [[\"f\", \"V\", \"W\"]]}}",
+            16,
+        ),
+        (
+            "{\"format\": 1, \"schema\": {\"objects\": [\"V\"], \"arrows\": []}, \"instance\": {\"parts\": [1000001], \"rows\": []}}",
+            16,
+        ),
+        (
+            "{\"format\": 1, \"schema\": {\"objects\": [\"V\"], \"arrows\": [[\"f\", \"V\", \"V\"]]}, \"instance\": {\"parts\": [1], \"rows\": [[1]]}}",
+            16,
+        ),
+        (
+            "{\"format\": 1, \"schema\": {\"objects\": [\"V\"], \"arrows\": []}, \"watches\": [{\"name\": \"v\", \"pattern\": {\"parts\": [1], \"rows\": []}}, {\"name\": \"v\", \"pattern\": {\"parts\": [2], \"rows\": []}}]}",
+            16,
+        ),
+    ] {
+        assert!(rt; refusal(alloc, text.as_bytes()) == whole(code), "at {text}");
+    }
+    Ok(())
+}
