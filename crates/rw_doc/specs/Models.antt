@@ -1,7 +1,8 @@
 -- What a document says, as contracts see it.
-use Rattle.std.specs.Prelude.{List}
-use Rattle.rw_schema.specs.Presentation.{Presentation}
-use Rattle.rw_table.specs.Tabled.{Tabled}
+use Rattle.std.specs.Prelude.{◌≡◌, List, None, All}
+use Rattle.rw_schema.specs.Presentation.{Presentation, signature_of}
+use Rattle.rw_table.specs.Tabled.{Tabled, IsOver}
+use Rattle.rw_pattern.specs.PatternFaults.{pattern_fault}
 use Rattle.rw_doc.specs.declared.document.Document.{Document}
 use Rattle.rw_doc.specs.declared.document.Watch.{Watch}
 
@@ -12,3 +13,8 @@ pub record DocumentLists : Type 0 where
 
 abbrev pub document_lists : Document → DocumentLists
 document_lists document = record { schema = document.schema; table = document.table; watches = document.watches.items }
+
+-- the table and the watched patterns are over the schema
+pub record IsSound (document : DocumentLists) : Type 0 where
+  pub table : IsOver document.schema document.table
+  pub watches : All (λ (watch : Watch). pattern_fault (signature_of document.schema) watch.pattern ≡ None) document.watches
