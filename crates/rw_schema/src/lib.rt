@@ -19,6 +19,8 @@ mod rows;
 mod schema;
 mod section;
 mod signature;
+#[cfg(test)]
+mod tests;
 mod text;
 
 pub use atom::{Atom, Kind};
