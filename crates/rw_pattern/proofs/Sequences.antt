@@ -1,12 +1,11 @@
 -- Lists that are made from other lists, place by place, and what they contain.
-use Rattle.std.proofs.Common.{◌≡◌, ℕ, zero, suc, ◌+◌, ◌<◌, ◌≤◌, ◌⊎◌, inl, inr, Bool, true, false, ◌&&◌, cond, Option, Some, None, List, [], ◌∷◌, ◌++◌, All, Contains, filter, map, sum, length, get_or, take, drop, slice_get, refl, sym, ap, ◌∙◌, add-one, add-zero, zero-add, suc-add, arith, drop-cons}
+use Rattle.std.proofs.Common.{◌≡◌, ℕ, zero, suc, ◌+◌, ◌<◌, inl, inr, Bool, true, false, ◌&&◌, cond, Some, List, [], ◌∷◌, ◌++◌, All, Contains, filter, map, length, get_or, take, drop, slice_get, refl, sym, ap, ◌∙◌, add-one, add-zero, zero-add, arith, drop-cons}
 use Rattle.std.specs.List.{flat_map, list_all}
 use Rattle.std.proofs.lemmas.Bool.{and_parts}
 use Rattle.std.proofs.lemmas.List.{append_assoc, append-nil, take_more, length-take-le, length-map, get_or-map}
 use Rattle.std.proofs.lemmas.List.Elements.{All-nil, All-cons, All-weaker, All-contains, All-contains_itself, All-filter, All-map, Contains-append_left, Contains-append_right, Contains-append_cases, filter_passes}
 use Rattle.std.proofs.lemmas.List.Sums.{AllPass-from_list_all, list_all-from_AllPass}
 use Rattle.rw_schema.specs.First.{map_in, flat_map_in, all_in}
-use Rattle.rw_schema.proofs.Lists.{map_in_append}
 
 -- the first item is contained
 pub contains_here : {X : Type 0} (x : X) (xs : List X) → Contains (x ∷ xs) x
@@ -40,15 +39,16 @@ contains_filter p xs x there = All-contains (λ x. p x ≡ true → Contains (fi
     kept p (y ∷ xs) = All-cons (λ x. p x ≡ true → Contains (filter p (y ∷ xs)) x) y xs
         (λ passed. rw passed (contains_here y (filter p xs)))
         (All-weaker (λ x. p x ≡ true → Contains (filter p xs) x) (λ x. p x ≡ true → Contains (filter p (y ∷ xs)) x)
-            (λ x there passed. elim (p y) as (λ b. Contains (cond b (y ∷ filter p xs) (filter p xs)) x)
-                [ true ↦ contains_later y (filter p xs) x (there passed) | false ↦ there passed ])
-            xs (kept p xs))
+        (λ x there passed. elim (p y) as (λ b. Contains (cond b (y ∷ filter p xs) (filter p xs)) x)
+        [ true ↦ contains_later y (filter p xs) x (there passed) | false ↦ there passed ])
+        xs (kept p xs))
 
 -- what a filter contains, the list contains, and it passes
 pub contained_in_filter : {X : Type 0} (p : X → Bool) (xs : List X) (x : X) → Contains (filter p xs) x → Contains xs x × (p x ≡ true)
-contained_in_filter p xs x there =
-    (All-contains (Contains xs) (filter p xs) x (All-filter p (Contains xs) xs (All-contains_itself xs)) there,
-     All-contains (λ x. p x ≡ true) (filter p xs) x (filter_passes p xs) there)
+contained_in_filter p xs x there = (
+  All-contains (Contains xs) (filter p xs) x (All-filter p (Contains xs) xs (All-contains_itself xs)) there,
+  All-contains (λ x. p x ≡ true) (filter p xs) x (filter_passes p xs) there,
+)
 
 -- a map contains the image of each item
 pub contains_map : {X Y : Type 0} (f : X → Y) (xs : List X) (x : X) → Contains xs x → Contains (map f xs) (f x)
@@ -59,9 +59,9 @@ contains_map f xs x there =
 pub contained_in_map : {X Y : Type 0} (f : X → Y) (xs : List X) (y : Y) → Contains (map f xs) y → (x : X) × Contains xs x × (f x ≡ y)
 contained_in_map {X} {Y} f xs y there =
     All-contains (λ (y : Y). (x : X) × Contains xs x × (f x ≡ y)) (map f xs) y
-        (All-map (λ (y : Y). (x : X) × Contains xs x × (f x ≡ y)) f xs
-            (All-weaker (Contains xs) (λ z. (x : X) × Contains xs x × (f x ≡ f z)) (λ x within. (x, within, refl)) xs (All-contains_itself xs)))
-        there
+    (All-map (λ (y : Y). (x : X) × Contains xs x × (f x ≡ y)) f xs
+    (All-weaker (Contains xs) (λ z. (x : X) × Contains xs x × (f x ≡ f z)) (λ x within. (x, within, refl)) xs (All-contains_itself xs)))
+    there
 
 -- lists joined end to end contain what the list of an item contains
 pub contains_flat_map : {X Y : Type 0} (f : X → List Y) (xs : List X) (x : X) (y : Y) → Contains xs x → Contains (f x) y → Contains (flat_map f xs) y
@@ -72,17 +72,17 @@ contains_flat_map f xs x y there = All-contains (λ x. Contains (f x) y → Cont
     each f (z ∷ xs) y = All-cons (λ x. Contains (f x) y → Contains (flat_map f (z ∷ xs)) y) z xs
         (λ within. Contains-append_left (f z) (flat_map f xs) y within)
         (All-weaker (λ x. Contains (f x) y → Contains (flat_map f xs) y) (λ x. Contains (f x) y → Contains (flat_map f (z ∷ xs)) y)
-            (λ x later within. Contains-append_right (f z) (flat_map f xs) y (later within)) xs (each f xs y))
+        (λ x later within. Contains-append_right (f z) (flat_map f xs) y (later within)) xs (each f xs y))
 
 -- what lists joined end to end contain, the list of an item contains
 pub contained_in_flat_map : {X Y : Type 0} (f : X → List Y) (xs : List X) (y : Y) → Contains (flat_map f xs) y → (x : X) × Contains xs x × Contains (f x) y
 contained_in_flat_map f [] y there = absurd (contains_none y there)
 contained_in_flat_map {X} {Y} f (x ∷ xs) y there =
     elim (Contains-append_cases (f x) (flat_map f xs) y there) [
-      inl here ↦ (x, contains_here x xs, here)
-    | inr later ↦
-        let found : (x : X) × Contains xs x × Contains (f x) y = contained_in_flat_map f xs y later in
-        (found.0, contains_later x xs found.0 found.1, found.2)
+      | inl here ↦ (x, contains_here x xs, here)
+      | inr later ↦
+          let found : (x : X) × Contains xs x × Contains (f x) y = contained_in_flat_map f xs y later in
+          (found.0, contains_later x xs found.0 found.1, found.2)
     ]
 
 -- a map with places contains what it gives at each place
@@ -101,11 +101,11 @@ pub contained_in_map_in : {X A : Type 0} (f : ℕ → X → A) (i : ℕ) (xs : L
 contained_in_map_in f i [] a there = absurd (contains_none a there)
 contained_in_map_in {X} {A} f i (x ∷ xs) a there =
     elim (Contains-append_cases (f i x ∷ []) (map_in f (i + 1) xs) a there) [
-      inl here ↦ (zero, x, refl, rw add-zero (only (f i x) a here))
-    | inr later ↦
-        let found : (k : ℕ) × (x : X) × (slice_get xs k ≡ Some x) × (f ((i + 1) + k) x ≡ a) = contained_in_map_in f (i + 1) xs a later in
-        let same : (i + 1) + found.0 ≡ i + suc found.0 = omega arith in
-        (suc found.0, found.1, found.2, rw (← same) found.3)
+      | inl here ↦ (zero, x, refl, rw add-zero (only (f i x) a here))
+      | inr later ↦
+          let found : (k : ℕ) × (x : X) × (slice_get xs k ≡ Some x) × (f ((i + 1) + k) x ≡ a) = contained_in_map_in f (i + 1) xs a later in
+          let same : (i + 1) + found.0 ≡ i + suc found.0 = omega arith in
+          (suc found.0, found.1, found.2, rw (← same) found.3)
     ]
   where
     only : {A : Type 0} (a b : A) → Contains (a ∷ []) b → a ≡ b
@@ -130,11 +130,11 @@ pub contained_in_flat_map_in : {X A : Type 0} (f : ℕ → X → List A) (i : �
 contained_in_flat_map_in f i [] a there = absurd (contains_none a there)
 contained_in_flat_map_in {X} {A} f i (x ∷ xs) a there =
     elim (Contains-append_cases (f i x) (flat_map_in f (i + 1) xs) a there) [
-      inl here ↦ (zero, x, refl, rw add-zero here)
-    | inr later ↦
-        let found : (k : ℕ) × (x : X) × (slice_get xs k ≡ Some x) × Contains (f ((i + 1) + k) x) a = contained_in_flat_map_in f (i + 1) xs a later in
-        let same : (i + 1) + found.0 ≡ i + suc found.0 = omega arith in
-        (suc found.0, found.1, found.2, rw (← same) found.3)
+      | inl here ↦ (zero, x, refl, rw add-zero here)
+      | inr later ↦
+          let found : (k : ℕ) × (x : X) × (slice_get xs k ≡ Some x) × Contains (f ((i + 1) + k) x) a = contained_in_flat_map_in f (i + 1) xs a later in
+          let same : (i + 1) + found.0 ≡ i + suc found.0 = omega arith in
+          (suc found.0, found.1, found.2, rw (← same) found.3)
     ]
 
 -- what a map with places from 0 contains, it gives at a place
@@ -159,13 +159,6 @@ list_all_contained p xs x all there = All-contains (λ x. p x ≡ true) xs x (Al
 pub list_all_from_contained : {X : Type 0} (p : X → Bool) (xs : List X) → ((x : X) → Contains xs x → p x ≡ true) → list_all p xs ≡ true
 list_all_from_contained p xs each =
     list_all-from_AllPass p xs (All-weaker (Contains xs) (λ x. p x ≡ true) each xs (All-contains_itself xs))
-
--- a map with places, with one item more
-pub map_in_more : {X A : Type 0} (f : ℕ → X → A) (xs : List X) (i : ℕ) (d : X) → i < length xs
-    → map_in f 0 (take (i + 1) xs) ≡ map_in f 0 (take i xs) ++ f i (get_or xs i d) ∷ []
-map_in_more f xs i d within =
-    let passed : length (take i xs) ≡ i = length-take-le i xs (omega arith) in
-    rw (take_more xs i d within, map_in_append f 0 (take i xs) (get_or xs i d ∷ []), passed, zero-add) refl
 
 -- lists joined by place, over two lists, one behind the other
 pub flat_map_in_append : {X A : Type 0} (f : ℕ → X → List A) (i : ℕ) (xs ys : List X) → flat_map_in f i (xs ++ ys) ≡ flat_map_in f i xs ++ flat_map_in f (i + length xs) ys

@@ -7,9 +7,8 @@ ghost use Rattle.rw_schema.specs.Presentation.{signature_of, ends_of_arrow};
 ghost use Rattle.rw_schema.specs.SchemaFaults.{has_ends};
 ghost use Rattle.rw_pattern.specs.PatternFaults.{has_shape, has_length, is_in_range};
 
-use rw_schema::{ArrowDef, Schema};
-
 use crate::pattern::MOST_PARTS;
+use rw_schema::{ArrowDef, Schema};
 
 /// Whether there is one size for each object, and one row of the right length for each arrow.
 pub fn are_shaped(schema: &Schema, sizes: &[u32], rows: &[Vec<u32>]) -> bool
