@@ -1,3 +1,3 @@
 pub mod Examples
 pub mod Readings
-pub mod Soundness
+pub mod Sound

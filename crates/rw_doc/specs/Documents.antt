@@ -183,18 +183,12 @@ with_format value = and_then (needed (codes "format") value) (λ format. and_the
 abbrev pub document_keys : List (List ℕ)
 document_keys = codes "format" ∷ codes "instance" ∷ codes "schema" ∷ codes "watches" ∷ []
 
--- the instance and the watches over a schema
-abbrev pub read_over : Data → Presentation → Result DocumentLists DocFault
-read_over value schema = and_then (instance_or_none (signature_of schema) (get (codes "instance") value)) (λ table.
-    and_then (watches_or_none (signature_of schema) (get (codes "watches") value)) (λ watches.
-    Ok (record { schema = schema; table = table; watches = watches })))
-
--- the schema, and what stands over it
-abbrev pub read_sections : Data → Result DocumentLists DocFault
-read_sections value = and_then (needed (codes "schema") value) (λ schema. and_then (read_schema schema) (read_over value))
-
 abbrev pub read_value : Data → Result DocumentLists DocFault
-read_value value = and_then (with_keys document_keys value) (λ value. and_then (with_format value) read_sections)
+read_value value = and_then (with_keys document_keys value) (λ value. and_then (with_format value) (λ value.
+    and_then (needed (codes "schema") value) (λ schema. and_then (read_schema schema) (λ schema.
+    and_then (instance_or_none (signature_of schema) (get (codes "instance") value)) (λ table.
+    and_then (watches_or_none (signature_of schema) (get (codes "watches") value)) (λ watches.
+    Ok (record { schema = schema; table = table; watches = watches })))))))
 
 -- the JSON value that bytes are
 abbrev pub read_json : List ℕ → Result Data DocFault

@@ -1,5 +1,6 @@
 -- What a document says, as contracts see it.
-use Rattle.std.specs.Prelude.{◌≡◌, List, None, All}
+use Rattle.std.specs.Prelude.{◌≡◌, List, None}
+use Rattle.std.specs.List.{All}
 use Rattle.rw_schema.specs.Presentation.{Presentation, signature_of}
 use Rattle.rw_table.specs.Tabled.{Tabled, IsOver}
 use Rattle.rw_pattern.specs.PatternFaults.{pattern_fault}
@@ -14,7 +15,7 @@ pub record DocumentLists : Type 0 where
 abbrev pub document_lists : Document → DocumentLists
 document_lists document = record { schema = document.schema; table = document.table; watches = document.watches.items }
 
--- the table and the watched patterns are over the schema
+-- the table is over the schema, and each watch has a pattern over it
 pub record IsSound (document : DocumentLists) : Type 0 where
   pub table : IsOver document.schema document.table
-  pub watches : All (λ (watch : Watch). pattern_fault (signature_of document.schema) watch.pattern ≡ None) document.watches
+  pub patterns : All (λ (watch : Watch). pattern_fault (signature_of document.schema) watch.pattern ≡ None) document.watches

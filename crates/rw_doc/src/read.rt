@@ -6,7 +6,7 @@ ghost use Rattle.serde_json.specs.View.{view};
 ghost use Rattle.rw_doc.specs.Chain.{some_or};
 ghost use Rattle.rw_doc.specs.Documents as spec;
 ghost use Rattle.rw_doc.specs.Gives.{Gives};
-ghost use Rattle.rw_doc.specs.Models.{document_lists, IsSound};
+ghost use Rattle.rw_doc.specs.Models.{IsSound, document_lists};
 
 use crate::instance::instance_or_none;
 use crate::json::{NOT_BUILT, needed, read_count, with_keys};
@@ -45,7 +45,8 @@ fn with_format(value: &Value) -> Result<(), ReadDocEnd>
 
 /// The document that a JSON value is.
 fn read_value(alloc: Global, value: &Value) -> Result<Document, ReadDocEnd>
-    ensures { Gives document_lists result (spec.read_value (view value.now)) }
+    ensures gives { Gives document_lists result (spec.read_value (view value.now)) }
+    ensures sound { IfOk result (λ document. IsSound (document_lists document)) }
 {
     with_keys(&["format", "instance", "schema", "watches"], value)?;
     with_format(value)?;
@@ -90,8 +91,8 @@ fn read_json(alloc: Global, bytes: &[u8]) -> Result<Value, ReadDocEnd>
 /// watches.
 ///
 /// Bytes that are no JSON text are refused with code 1, and a value that is no document of the form that is
-/// read so far with code 16; want of memory may end a reading at any bytes. The time is linear in the bytes and
-/// in the counts of parts, up to a logarithm.
+/// read so far with code 16; want of memory may end a reading at any bytes. The time and the memory are linear
+/// in the bytes and the counts of parts, the time up to a logarithm.
 pub fn read_document(alloc: Global, bytes: &[u8]) -> Result<Document, ReadDocEnd>
     ensures gives { Gives document_lists result (spec.read_document bytes.now) }
     ensures sound { IfOk result (λ document. IsSound (document_lists document)) }
