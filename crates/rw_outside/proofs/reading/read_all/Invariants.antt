@@ -1,4 +1,4 @@
--- The bytes are what came so far, within the limit, and no call has failed yet.
+-- The bytes are what came so far, within the limit, and the count did not fall.
 use Rattle.std.proofs.Common.{◌-◌, ◌≤◌, length}
 use Rattle.std.specs.Prelude.{vec_len}
 use Rattle.std.specs.Io.KnownBytes.{Consumes}
