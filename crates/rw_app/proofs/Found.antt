@@ -13,4 +13,4 @@ pub found_holds : {X : Type 0} (P : X → Type 0) (test : X → Bool) (xs : List
 found_holds P test [] x found all = let no : ⊥ = cc in absurd no
 found_holds P test (y ∷ xs) x found all =
     found_first P (test y) y (find test xs) x found (all 0 y (omega arith))
-      (λ later. found_holds P test xs x later (λ k d within. all (suc k) d (omega arith)))
+    (λ later. found_holds P test xs x later (λ k d within. all (suc k) d (omega arith)))

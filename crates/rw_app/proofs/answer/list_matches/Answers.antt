@@ -10,4 +10,4 @@ pub list_watch-requires-clause-pattern : goal.list_watch-requires-clause-pattern
 list_watch-requires-clause-pattern c =
     let P : Watch → Type 0 = λ watch. pattern_fault (signature_of c.args.document.now.schema) watch.pattern ≡ None in
     found_holds P (λ watch. bytes_eq c.args.name.now watch.name) c.as_slice.result.now c.in-Some.watch.now
-      (sym c.in-Some.ensures) (rw c.as_slice.ensures.value c.requires.patterns)
+    (sym c.in-Some.ensures) (rw c.as_slice.ensures.value c.requires.patterns)
