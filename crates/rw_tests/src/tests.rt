@@ -1,6 +1,6 @@
 ghost use Rattle.std.specs.Prelude.{◌≡◌, ◌<◌};
 
-use crate::documents::{ATTRIBUTES, CUT, LOOP, PATH, TRIANGLE, UNIT};
+use crate::documents::{ATTRIBUTES, CUT, LOOP, PATH, PETRI, TRIANGLE, UNIT};
 use rw_app::{Status, run_words};
 use rw_outside::{MemSink, MemSource, Sink, Source};
 use rw_steps::Steps;
@@ -88,6 +88,14 @@ fn commands_answer(rt: HostRuntime) -> Result<(), Fail> {
         TRIANGLE.as_bytes(),
         0,
         "{\"matches\":[[0,1,2,0,1,2],[1,2,0,1,2,0],[2,0,1,2,0,1]],\"name\":\"triangle\"}\n",
+    )?;
+    check(
+        &rt,
+        rt.alloc(),
+        &["matches", "catalyst"],
+        PETRI.as_bytes(),
+        0,
+        "{\"matches\":[[1,0,1,0],[1,0,1,1]],\"name\":\"catalyst\"}\n",
     )?;
     check(
         &rt,
