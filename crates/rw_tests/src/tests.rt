@@ -29,6 +29,16 @@ fn run<S: Source, K: Sink, L: Ledger>(
     run_words(alloc, words, source, sink, &mut steps)
 }
 
+/// Runs the words over both ends, where nobody reads the steps.
+fn finish<S: Source, K: Sink>(
+    alloc: Global,
+    words: &Vec<String>,
+    source: &mut S,
+    sink: &mut K,
+) -> Status {
+    run::<S, K, Brand>(alloc, words, source, sink, Blank::new(1))
+}
+
 fn owned(alloc: Global, words: &[&str]) -> Result<Vec<String>, Fail> {
     let mut owned = Vec::new(alloc);
     for word in words {
@@ -49,7 +59,7 @@ fn check(
     let words = owned(alloc, words)?;
     let mut source = MemSource::new(document.to_vec(alloc)?, 7, Vec::new(alloc));
     let mut sink = MemSink::new(alloc, 4096, Vec::new(alloc))?;
-    let status = run::<_, _, Brand>(alloc, &words, &mut source, &mut sink, Blank::new(1));
+    let status = finish(alloc, &words, &mut source, &mut sink);
     assert_eq!(rt; status.number(), number, "{text}");
     assert!(rt; sink.held() == text.as_bytes(), "{text}");
     Ok(())
@@ -160,7 +170,7 @@ fn faulty(
     let document = PATH.as_bytes().to_vec(alloc)?;
     let mut source = MemSource::new(document, 64, [failing_take].to_vec(alloc)?);
     let mut sink = MemSink::new(alloc, room, [failing_put].to_vec(alloc)?)?;
-    let status = run::<_, _, Brand>(alloc, &words, &mut source, &mut sink, Blank::new(1));
+    let status = finish(alloc, &words, &mut source, &mut sink);
     Ok((status, sink.held().to_vec(alloc)?))
 }
 
@@ -197,7 +207,7 @@ fn long_inputs_are_refused(rt: HostRuntime) -> Result<(), Fail> {
     let spaces = vec![in alloc; b' '; 67_108_865]?;
     let mut source = MemSource::new(spaces, 67_108_865, Vec::new(alloc));
     let mut sink = MemSink::new(alloc, 100, Vec::new(alloc))?;
-    let status = run::<_, _, Brand>(alloc, &words, &mut source, &mut sink, Blank::new(1));
+    let status = finish(alloc, &words, &mut source, &mut sink);
     assert_eq!(rt; status, Status::TooLong);
     assert!(rt; sink.held().is_empty());
     Ok(())
