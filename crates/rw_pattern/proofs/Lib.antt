@@ -1,5 +1,6 @@
 pub mod Entries
 mod Examples
+pub mod Maps
 pub mod Naturality
 pub mod Places
 pub mod Sequences
