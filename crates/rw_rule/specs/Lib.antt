@@ -1,0 +1,3 @@
+pub mod RuleFaults
+pub mod RuleLists
+pub mod RuleParts

@@ -1,0 +1,19 @@
+-- A rewriting rule as contracts see it.
+use Rattle.std.specs.Prelude.{ℕ, List, Bool}
+use Rattle.rw_pattern.specs.PatternLists.{PatternLists}
+use Rattle.rw_rule.specs.declared.kind.RuleKind.{RuleKind}
+
+-- the pattern that is matched, and of each object whether two of its parts must have two images
+pub record GoalLists : Type 0 where
+  pub left : PatternLists
+  pub monic : List Bool
+
+-- a span of patterns, left from keep to right, with a name and a kind
+pub record RuleLists : Type 0 where
+  pub name : List ℕ
+  pub kind : RuleKind
+  pub goal : GoalLists
+  pub keep : PatternLists
+  pub right : PatternLists
+  pub l : List (List ℕ)
+  pub r : List (List ℕ)

@@ -1,0 +1,20 @@
+-- The lists of a rule's parts.
+use Rattle.rw_rule.specs.declared.goal.Goal.{Goal}
+use Rattle.rw_rule.specs.declared.parts.RuleParts.{RuleParts}
+use Rattle.rw_rule.specs.RuleLists.{GoalLists, RuleLists}
+
+-- the lists of what is looked for
+abbrev pub goal_of_parts : Goal → GoalLists
+goal_of_parts goal = record { left = goal.left; monic = goal.monic.items }
+
+-- the lists of all parts
+abbrev pub rule_of_parts : RuleParts → RuleLists
+rule_of_parts parts = record {
+  name = parts.name;
+  kind = parts.kind;
+  goal = goal_of_parts parts.goal;
+  keep = parts.keep;
+  right = parts.right;
+  l = parts.l;
+  r = parts.r;
+}
