@@ -1,5 +1,5 @@
 -- What holds of images that are a map of patterns.
-use Rattle.std.proofs.Common.{◌≡◌, ◌==◌, ℕ, ◌+◌, ◌<◌, ◌≤◌, true, ◌&&◌, nat_le, nat_lt, Option, Some, None, List, sum, length, slice_get, slice_index, refl, sym, ◌∙◌, zero-add, arith, eqb-true, ltb-true}
+use Rattle.std.proofs.Common.{◌≡◌, ℕ, ◌+◌, ◌<◌, ◌≤◌, true, nat_le, nat_lt, Option, Some, None, List, sum, length, slice_get, slice_index, refl, sym, zero-add, arith, eqb-true, ltb-true}
 use Rattle.std.proofs.lemmas.Bool.{and_parts, leb-true}
 use Rattle.std.proofs.lemmas.Option.{slice_get-get_or}
 use Rattle.rw_schema.specs.declared.signature.ArrowEnds.{ArrowEnds}

@@ -1,5 +1,5 @@
 -- When lists are a rule, and the first fault of those that are none.
-use Rattle.std.specs.Prelude.{◌≡◌, ◌==◌, ℕ, Bool, true, false, not, ◌&&◌, is_none, length, List, [], ◌∷◌, Option, Some, None, Result, Ok, Err}
+use Rattle.std.specs.Prelude.{◌≡◌, ◌==◌, ℕ, Bool, true, not, ◌&&◌, is_none, length, List, [], ◌∷◌, Option, Some, None, Result, Ok, Err}
 use Rattle.std.specs.List.{list_any}
 use Rattle.rw_schema.specs.First.{or_else, fault_unless, all_in}
 use Rattle.rw_schema.specs.RowLists.{list_at}
@@ -7,7 +7,7 @@ use Rattle.rw_schema.specs.Signature.{Signature}
 use Rattle.rw_pattern.specs.MapFaults.{map_fault}
 use Rattle.rw_pattern.specs.PatternFaults.{pattern_fault}
 use Rattle.rw_pattern.specs.PatternLists.{PatternLists}
-use Rattle.rw_rule.specs.RuleLists.{GoalLists, RuleLists}
+use Rattle.rw_rule.specs.RuleLists.{RuleLists}
 use Rattle.rw_rule.specs.declared.fault.RuleFault.{RuleFault}
 use Rattle.rw_rule.specs.declared.fault.RuleFault.TheVariants.{NotHom, NotInjective}
 

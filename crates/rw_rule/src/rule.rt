@@ -84,10 +84,10 @@ impl Rule {
         &self.name
     }
 
-    pub fn kind(&self) -> RuleKind
-        ensures { result ≡ self.now.kind }
+    pub fn kind(&self) -> &RuleKind
+        ensures { result.now ≡ self.now.kind }
     {
-        self.kind
+        &self.kind
     }
 
     /// What the rule looks for.

@@ -1,14 +1,11 @@
 -- The square of an arrow is tested, and then those that are left.
-use Rattle.std.proofs.Common.{◌≡◌, ◌∙◌, ◌<◌, ◌≤◌, None, Some, ℕ, List, length, map, sym, ap, arith, get_or}
+use Rattle.std.proofs.Common.{◌≡◌, ◌∙◌, ◌<◌, ℕ, List, length, map, sym, ap, get_or}
 use Rattle.std.proofs.lemmas.List.{length-map, get_or-map}
 use Rattle.rw_schema.specs.declared.parts.ArrowDef.{ArrowDef}
-use Rattle.rw_schema.specs.declared.signature.ArrowEnds.{ArrowEnds}
 use Rattle.rw_schema.specs.Presentation.{signature_of, ends_of_arrow}
-use Rattle.rw_schema.specs.RowLists.{list_at}
 use Rattle.rw_schema.specs.Signature.{Signature}
 use Rattle.rw_schema.proofs.Firsts.{first_here, first_next}
 use Rattle.rw_pattern.specs.MapFaults.{square_fault}
-use Rattle.rw_pattern.specs.PatternLists.{PatternLists, size_of}
 use Rattle.rw_pattern.proofs.Maps.{row_few}
 use Rattle.rw_pattern.proofs.Shapes.{is_pattern, ends_at}
 use Rattle.rw_pattern.proofs.check.first_square.Goals as goal

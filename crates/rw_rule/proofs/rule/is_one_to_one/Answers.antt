@@ -1,5 +1,5 @@
 -- The images of an object are tested, and then those that are left.
-use Rattle.std.proofs.Common.{◌≡◌, ◌∙◌, ◌<◌, ◌+◌, ◌&&◌, ℕ, List, Bool, true, false, length, get_or, drop, sym, refl, ap}
+use Rattle.std.proofs.Common.{◌≡◌, ◌∙◌, ◌<◌, ◌+◌, ◌&&◌, ℕ, List, Bool, true, false, length, get_or, drop, sym, ap}
 use Rattle.std.proofs.lemmas.List.{get_or_default}
 use Rattle.rw_schema.specs.First.{all_in}
 use Rattle.rw_pattern.proofs.Sequences.{all_in_next}
