@@ -31,10 +31,10 @@ ascends_apart (x ∷ xs) (suc i) (suc j) up before within = ascends_apart xs i j
 pub ascends_far : (xs : List ℕ) → ascends xs ≡ true → (i j : ℕ) → i ≤ j → j < length xs → get_or xs i 0 ≤ get_or xs j 0
 ascends_far xs up i j before within =
     elim (cases_order i j) [
-      inl same ↦ rw same (omega arith)
-    | inr other ↦ elim other [
-        inl below ↦ let less = ascends_apart xs i j up below within in omega arith
-      | inr above ↦ absurd (omega arith)
+      | inl same ↦ rw same (omega arith)
+      | inr other ↦ elim other [
+        | inl below ↦ let less = ascends_apart xs i j up below within in omega arith
+        | inr above ↦ absurd (omega arith)
       ]
     ]
 
@@ -42,10 +42,10 @@ ascends_far xs up i j before within =
 pub ascends_distinct : (xs : List ℕ) → ascends xs ≡ true → AreDistinct xs
 ascends_distinct xs up i j within_i within_j same =
     elim (cases_order i j) [
-      inl equal ↦ equal
-    | inr other ↦ elim other [
-        inl below ↦ let less = ascends_apart xs i j up below within_j in absurd (omega arith)
-      | inr above ↦ let less = ascends_apart xs j i up above within_i in absurd (omega arith)
+      | inl equal ↦ equal
+      | inr other ↦ elim other [
+        | inl below ↦ let less = ascends_apart xs i j up below within_j in absurd (omega arith)
+        | inr above ↦ let less = ascends_apart xs j i up above within_i in absurd (omega arith)
       ]
     ]
 

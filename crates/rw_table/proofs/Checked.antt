@@ -63,13 +63,13 @@ row_whole C rows a ends shaped there =
 pub names_ascend : (rows : RowLists) (object : ℕ) → names_fault rows ≡ None → ascends (list_at rows.names object) ≡ true
 names_ascend rows object none =
     elim (cases_lt object (length rows.names)) [
-      inl within ↦
-        let there = slice_get-get_or rows.names object [] within in
-        let names = list_at rows.names object in
-        let next = slice_index rows.next object in
-        let passed = none_at (λ each names. fault_unless (are_names (slice_index rows.next each) names) (Names (record { 0 = each }))) rows.names object names none there in
-        (and_parts (ascends names) (list_all (λ name. nat_lt name next) names) (passed_unless (are_names next names) (Names (record { 0 = object })) passed)).0
-    | inr past ↦ rw (get_or_past rows.names object [] past) refl
+      | inl within ↦
+          let there = slice_get-get_or rows.names object [] within in
+          let names = list_at rows.names object in
+          let next = slice_index rows.next object in
+          let passed = none_at (λ each names. fault_unless (are_names (slice_index rows.next each) names) (Names (record { 0 = each }))) rows.names object names none there in
+          (and_parts (ascends names) (list_all (λ name. nat_lt name next) names) (passed_unless (are_names next names) (Names (record { 0 = object })) passed)).0
+      | inr past ↦ rw (get_or_past rows.names object [] past) refl
     ]
 
 -- the names of each object are distinct

@@ -44,8 +44,8 @@ place_below : {X : Type 0} (test : X → Bool) (xs : List X) → nat_lt (positio
 place_below test [] = refl
 place_below test (x ∷ xs) =
     elim (cases_Bool (test x)) [
-      inl passes ↦ rw (passes, lt-ltb 0 (suc (length xs)) (omega arith)) refl
-    | inr fails ↦ rw fails (below_more (position_or_len test xs) (length xs) ∙ place_below test xs)
+      | inl passes ↦ rw (passes, lt-ltb 0 (suc (length xs)) (omega arith)) refl
+      | inr fails ↦ rw fails (below_more (position_or_len test xs) (length xs) ∙ place_below test xs)
     ]
 
 -- there is a place exactly where some element passes the test
@@ -58,15 +58,15 @@ pub place_searched : (names : List ℕ) (name : ℕ) (answer : Result ℕ ℕ) �
 place_searched names name (Ok k) up is =
     let found = searched names name (Ok k) is (ascends_far names up) in
     sym (place_is (λ other. other == name) names k 0 found.0
-      (λ j below. ne_eqb (get_or names j 0) name (λ same. let less = ascends_apart names j k up below found.0 in absurd (omega arith)))
-      (eq-eqb (get_or names k 0) name found.1))
+    (λ j below. ne_eqb (get_or names j 0) name (λ same. let less = ascends_apart names j k up below found.0 in absurd (omega arith)))
+    (eq-eqb (get_or names k 0) name found.1))
 place_searched names name (Err k) up is =
     let missed = searched names name (Err k) is (ascends_far names up) in
     sym (place_none (λ other. other == name) names 0
-      (λ j within. ne_eqb (get_or names j 0) name (λ same. elim (cases_lt j k) [
-        inl below ↦ let less = missed.1 j below in absurd (omega arith)
+    (λ j within. ne_eqb (get_or names j 0) name (λ same. elim (cases_lt j k) [
+      | inl below ↦ let less = missed.1 j below in absurd (omega arith)
       | inr above ↦ let more = missed.2 j above within in absurd (omega arith)
-      ])))
+    ])))
 
 -- the entry at the place of a name is the entry beside it
 pub entry_found : (names entries : List ℕ) (name k : ℕ) → position (λ other. other == name) names ≡ Some k
@@ -75,7 +75,7 @@ entry_found names entries name k found =
     let at = position-Some (λ other. other == name) names k 0 found in
     let among : list_any (λ other. other == name) names ≡ true = list_any_at (λ other. other == name) names k 0 at.0 at.1 in
     let beside : look 0 names entries name ≡ get_or entries k 0 =
-        look_first 0 names entries name k at.0 (eqb-true (get_or names k 0) name at.1) (λ j below. eqb-false (get_or names j 0) name (at.2 j below)) in
+    look_first 0 names entries name k at.0 (eqb-true (get_or names k 0) name at.1) (λ j below. eqb-false (get_or names j 0) name (at.2 j below)) in
     rw (among, beside) refl
 
 -- no entry is beside a name that has no place

@@ -22,7 +22,7 @@ table_functions C rows none a ends x there has =
     let row = list_at rows.arrows a in
     rw (source_is C a ends there)
     (images_named C rows a ends (look 0 names row x) checked.range there
-      (look_contains 0 names row x (row_whole C rows a ends checked.shape there) has))
+    (look_contains 0 names row x (row_whole C rows a ends checked.shape there) has))
 
 -- checked lists over a schema of objects and arrows alone are an instance
 pub table_instance : (C : Signature) (rows : RowLists) → C.attributes ≡ [] → C.equations ≡ [] → table_fault C rows ≡ None
@@ -44,6 +44,6 @@ value_within table a name ends none there =
     let names = list_at table.rows.names (source_of table.signature a) in
     let image = (instance_of_table table).value a name in
     cond_both (list_any (λ other. other == name) names) (Some image) None (λ found. IfSome found (Has (instance_of_table table) ends.target.0))
-      (λ among. table_functions table.signature table.rows none a ends name there
-        (subst (λ object. Has (instance_of_table table) object name) (source_is table.signature a ends there) (contains_found names name among)))
-      (λ missing. tt)
+    (λ among. table_functions table.signature table.rows none a ends name there
+    (subst (λ object. Has (instance_of_table table) object name) (source_is table.signature a ends there) (contains_found names name among)))
+    (λ missing. tt)

@@ -38,7 +38,7 @@ names_fault rows =
 abbrev pub row_fault : RowLists → ℕ → ArrowEnds → Option TableFault
 row_fault rows arrow ends =
     first_in (λ position image. fault_unless (list_any (λ name. name == image) (list_at rows.names ends.target.0)) (Range (record { 0 = arrow }) position))
-        0 (list_at rows.arrows arrow)
+    0 (list_at rows.arrows arrow)
 
 -- the first arrow with such an image
 abbrev pub range_fault : Signature → RowLists → Option TableFault

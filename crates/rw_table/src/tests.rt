@@ -125,7 +125,10 @@ fn names_the_first_fault(rt: HostRuntime) -> Result<(), Fail> {
         Vec::new(rt.alloc()),
         Vec::new(rt.alloc()),
     );
-    assert_eq!(rt; Table::new(rt.alloc(), &schema, nothing).err(), Some(TableFault::Shape));
+    assert_eq!(rt;
+        Table::new(rt.alloc(), &schema, nothing).err(),
+        Some(TableFault::Shape)
+    );
     Ok(())
 }
 

@@ -9,4 +9,4 @@ pub first_row_fault-requires-clause-beside : goal.first_row_fault-requires-claus
 first_row_fault-requires-clause-beside c =
     let within : c.loop-place.place < length c.args.arrows.now = omega arith in
     row_whole (plain_signature (length c.args.rows.now.names) c.args.arrows.now) c.args.rows.now c.loop-place.place _ c.requires.shape
-      (slice_get-get_or c.args.arrows.now c.loop-place.place _ within)
+    (slice_get-get_or c.args.arrows.now c.loop-place.place _ within)

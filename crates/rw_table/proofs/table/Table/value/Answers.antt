@@ -21,7 +21,7 @@ entry_beside-requires-clause-beside c =
     let C = plain_signature (length table.rows.names) table.arrows.items in
     let within : c.args.arrow.0 < length table.arrows.items = rw (← c.self.view_is) at c.requires in
     let there : slice_get table.arrows.items c.args.arrow.0 ≡ Some c.index.result.now =
-        slice_get_read table.arrows.items (length table.arrows.items) c.args.arrow.0 c.index.result.now refl within c.index.ensures in
+    slice_get_read table.arrows.items (length table.arrows.items) c.args.arrow.0 c.index.result.now refl within c.index.ensures in
     rw (c.row.ensures, c.names.ensures)
     (row_whole C table.rows c.args.arrow.0 c.index.result.now (checked_known C table.rows c.self.invariant.1).shape there)
 
