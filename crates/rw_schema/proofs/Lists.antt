@@ -1,7 +1,7 @@
 -- Lists of lists, maps with places, and tests behind a map.
-use Rattle.std.proofs.Common.{◌≡◌, ℕ, zero, suc, ◌+◌, ◌<◌, Bool, true, ◌||◌, cond, not, Some, List, [], ◌∷◌, ◌++◌, map, length, get_or, position, slice_get, slice_set, refl, ap, ◌∙◌, add-zero, arith, ◌≢◌, get_or-set_other, get_or-set_same}
+use Rattle.std.proofs.Common.{◌≡◌, ℕ, zero, suc, ◌+◌, ◌<◌, Bool, true, ◌||◌, cond, not, Some, List, [], ◌∷◌, ◌++◌, map, length, get_or, position, slice_get, slice_set, refl, ap, ◌∙◌, add-zero, arith, ◌≢◌, get_or-set_other, get_or-set_same, ◌≤◌, take, le_of_lt, zero-add}
 use Rattle.std.specs.List.{list_any, list_all, position_or_len}
-use Rattle.std.proofs.lemmas.List.{length-map, get_or-map}
+use Rattle.std.proofs.lemmas.List.{length-map, length-take-le, get_or-map, get_or_past, take_more}
 use Rattle.std.proofs.lemmas.Option.{slice_get-get_or}
 use Rattle.std.proofs.lemmas.Bool.{and_parts}
 use Rattle.rw_schema.specs.First.{map_in}
@@ -40,6 +40,10 @@ slice_get_mapped h (x ∷ xs) (suc k) y there = slice_get_mapped h xs k y there
 pub list_at_within : {A : Type 0} (lists : List (List A)) (i : ℕ) → i < length lists → slice_get lists i ≡ Some (list_at lists i)
 list_at_within lists i within = slice_get-get_or lists i [] within
 
+-- past the last list of a list of lists stands the empty list
+pub list_at_past : {A : Type 0} (lists : List (List A)) (i : ℕ) → length lists ≤ i → list_at lists i ≡ []
+list_at_past lists i past = get_or_past lists i [] past
+
 -- the list at a place of a mapped list
 pub list_at_map : {A B : Type 0} (h : A → List B) (xs : List A) (i : ℕ) (d : A) → i < length xs → list_at (map h xs) i ≡ h (get_or xs i d)
 list_at_map h xs i d within = get_or-map h xs i d [] within
@@ -74,6 +78,13 @@ map_in_append f i [] ys = rw add-zero refl
 map_in_append f i (x ∷ xs) ys =
     let same : (i + 1) + length xs ≡ i + suc (length xs) = omega arith in
     ap (λ rest. f i x ∷ rest) (map_in_append f (i + 1) xs ys) ∙ rw (same) refl
+
+-- a map with places over one item more, as at a step of a loop
+pub map_in_more : {X A : Type 0} (f : ℕ → X → A) (xs : List X) (i : ℕ) (x : X)
+    → i < length xs → x ≡ get_or xs i x → map_in f 0 (take (i + 1) xs) ≡ map_in f 0 (take i xs) ++ f i x ∷ []
+map_in_more f xs i x within is =
+    let same : 0 + length (take i xs) ≡ i = rw (length-take-le i xs (le_of_lt within)) (zero-add i) in
+    rw (take_more xs i x within, ← is, map_in_append f 0 (take i xs) (x ∷ []), same) refl
 
 -- two functions that agree at each place give the same list
 pub map_in_same : {X A : Type 0} (f g : ℕ → X → A) (i : ℕ) (xs : List X) → ((k : ℕ) (x : X) → f k x ≡ g k x) → map_in f i xs ≡ map_in g i xs
