@@ -19,8 +19,8 @@ pub contains_found : (names : List ℕ) (x : ℕ) → list_any (λ name. name ==
 contains_found [] x found = absurd (cc)
 contains_found (name ∷ names) x found =
     elim (or_cases (name == x) (list_any (λ other. other == x) names) found) [
-      inl here ↦ (zero, omega arith, eqb-true name x here)
-    | inr later ↦ contains_more name names x (contains_found names x later)
+      | inl here ↦ (zero, omega arith, eqb-true name x here)
+      | inr later ↦ contains_more name names x (contains_found names x later)
     ]
 
 -- a test finds a name that is among the names
@@ -28,8 +28,8 @@ pub found_contained : (names : List ℕ) (x : ℕ) → Contains names x → list
 found_contained [] x (k, within, there) = absurd (omega arith)
 found_contained (name ∷ names) x contains =
     elim (contains_cases name names x contains) [
-      inl here ↦ or_left (name == x) (list_any (λ other. other == x) names) (eq-eqb name x here)
-    | inr later ↦ or_right (name == x) (list_any (λ other. other == x) names) (found_contained names x later)
+      | inl here ↦ or_left (name == x) (list_any (λ other. other == x) names) (eq-eqb name x here)
+      | inr later ↦ or_right (name == x) (list_any (λ other. other == x) names) (found_contained names x later)
     ]
 
 -- where the first name is the one that is looked for, its entry is the answer
@@ -49,13 +49,13 @@ look_contains none [] entries x beside (k, within, there) = absurd (omega arith)
 look_contains none (name ∷ names) [] x beside contains = absurd (omega arith)
 look_contains none (name ∷ names) (entry ∷ entries) x beside contains =
     elim (cases_eq name x) [
-      inl here ↦ rw (look_here none name names entry entries x here) (zero, omega arith, refl)
-    | inr other ↦
-        rw (look_later none name names entry entries x other)
-        (elim (contains_cases name names x contains) [
-          inl here ↦ absurd (other here)
-        | inr later ↦ contains_more entry entries (look none names entries x) (look_contains none names entries x (omega arith) later)
-        ])
+      | inl here ↦ rw (look_here none name names entry entries x here) (zero, omega arith, refl)
+      | inr other ↦
+          rw (look_later none name names entry entries x other)
+          (elim (contains_cases name names x contains) [
+            | inl here ↦ absurd (other here)
+            | inr later ↦ contains_more entry entries (look none names entries x) (look_contains none names entries x (omega arith) later)
+          ])
     ]
 
 -- nothing is found beside a name that is not there
