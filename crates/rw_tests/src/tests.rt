@@ -66,97 +66,81 @@ fn check(
 }
 
 #[test]
-fn commands_answer(rt: HostRuntime) -> Result<(), Fail> {
+fn matches_are_listed(rt: HostRuntime) -> Result<(), Fail> {
+    let alloc = rt.alloc();
+    let edges = "{\"matches\":[[0,1,0],[1,2,1]],\"name\":\"edge\"}\n";
+    check(&rt, alloc, &["matches", "edge"], PATH.as_bytes(), 0, edges)?;
+    let unit = "{\"matches\":[[]],\"name\":\"unit\"}\n";
+    check(&rt, alloc, &["matches", "unit"], UNIT.as_bytes(), 0, unit)?;
+    let looped = "{\"matches\":[[0,0,0]],\"name\":\"edge\"}\n";
+    check(&rt, alloc, &["matches", "edge"], LOOP.as_bytes(), 0, looped)?;
+    let triangles =
+        "{\"matches\":[[0,1,2,0,1,2],[1,2,0,1,2,0],[2,0,1,2,0,1]],\"name\":\"triangle\"}\n";
     check(
         &rt,
-        rt.alloc(),
-        &["matches", "edge"],
-        PATH.as_bytes(),
-        0,
-        "{\"matches\":[[0,1,0],[1,2,1]],\"name\":\"edge\"}\n",
-    )?;
-    check(
-        &rt,
-        rt.alloc(),
-        &["matches", "unit"],
-        UNIT.as_bytes(),
-        0,
-        "{\"matches\":[[]],\"name\":\"unit\"}\n",
-    )?;
-    check(
-        &rt,
-        rt.alloc(),
-        &["matches", "edge"],
-        LOOP.as_bytes(),
-        0,
-        "{\"matches\":[[0,0,0]],\"name\":\"edge\"}\n",
-    )?;
-    check(
-        &rt,
-        rt.alloc(),
+        alloc,
         &["matches", "triangle"],
         TRIANGLE.as_bytes(),
         0,
-        "{\"matches\":[[0,1,2,0,1,2],[1,2,0,1,2,0],[2,0,1,2,0,1]],\"name\":\"triangle\"}\n",
+        triangles,
     )?;
+    let catalysts = "{\"matches\":[[1,0,1,0],[1,0,1,1]],\"name\":\"catalyst\"}\n";
     check(
         &rt,
-        rt.alloc(),
+        alloc,
         &["matches", "catalyst"],
         PETRI.as_bytes(),
         0,
-        "{\"matches\":[[1,0,1,0],[1,0,1,1]],\"name\":\"catalyst\"}\n",
-    )?;
+        catalysts,
+    )
+}
+
+#[test]
+fn documents_are_refused(rt: HostRuntime) -> Result<(), Fail> {
+    let alloc = rt.alloc();
+    let unknown = "{\"at\":[0,0,0],\"fault\":6,\"section\":\"whole\"}\n";
     check(
         &rt,
-        rt.alloc(),
+        alloc,
         &["matches", "nobody"],
         PATH.as_bytes(),
         3,
-        "{\"at\":[0,0,0],\"fault\":6,\"section\":\"whole\"}\n",
+        unknown,
     )?;
+    let not_json = "{\"at\":[0,0,0],\"fault\":1,\"section\":\"whole\"}\n";
     check(
         &rt,
-        rt.alloc(),
+        alloc,
         &["matches", "edge"],
         CUT.as_bytes(),
         3,
-        "{\"at\":[0,0,0],\"fault\":1,\"section\":\"whole\"}\n",
+        not_json,
     )?;
+    check(&rt, alloc, &["matches", "edge"], b"\xff", 3, not_json)?;
+    let not_built = "{\"at\":[0,0,0],\"fault\":16,\"section\":\"whole\"}\n";
     check(
         &rt,
-        rt.alloc(),
-        &["matches", "edge"],
-        b"\xff",
-        3,
-        "{\"at\":[0,0,0],\"fault\":1,\"section\":\"whole\"}\n",
-    )?;
-    check(
-        &rt,
-        rt.alloc(),
+        alloc,
         &["matches", "edge"],
         ATTRIBUTES.as_bytes(),
         3,
-        "{\"at\":[0,0,0],\"fault\":16,\"section\":\"whole\"}\n",
-    )?;
-    check(&rt, rt.alloc(), &[], PATH.as_bytes(), 2, USAGE)?;
+        not_built,
+    )
+}
+
+#[test]
+fn other_words_get_the_usage_line(rt: HostRuntime) -> Result<(), Fail> {
+    let alloc = rt.alloc();
+    check(&rt, alloc, &[], PATH.as_bytes(), 2, USAGE)?;
+    check(&rt, alloc, &["match", "edge"], PATH.as_bytes(), 2, USAGE)?;
     check(
         &rt,
-        rt.alloc(),
-        &["match", "edge"],
-        PATH.as_bytes(),
-        2,
-        USAGE,
-    )?;
-    check(
-        &rt,
-        rt.alloc(),
+        alloc,
         &["matches", "edge", "edge"],
         PATH.as_bytes(),
         2,
         USAGE,
-    )?;
-    Ok(())
+    )
 }
 
 /// The status and what is held where a take or a put fails, or the sink has little room.
