@@ -9,15 +9,11 @@ ghost use Rattle.rw_doc.specs.Gives.{Gives};
 
 use crate::ReadDocEnd;
 use crate::json::{NOT_BUILT, needed, read_at_most, read_items, read_str, read_text, with_keys};
-use rw_schema::{ArrowDef, ObjectId, Schema, SchemaFault, SchemaParts, Text};
+use rw_schema::{
+    ArrowDef, MOST_ARROWS, MOST_OBJECTS, ObjectId, Schema, SchemaFault, SchemaParts, Text,
+};
 use serde_json::Value;
 use std::alloc::Global;
-
-/// The greatest number of objects.
-const MOST_OBJECTS: usize = 64;
-
-/// The greatest number of arrows.
-const MOST_ARROWS: usize = 256;
 
 /// A text of each item.
 fn texts_of(alloc: Global, items: &[Value]) -> Result<Vec<Text>, ReadDocEnd>

@@ -14,15 +14,12 @@ use crate::instance::read_rows;
 use crate::json::{NOT_BUILT, needed, read_at_most, read_counts, read_text, with_keys};
 use crate::{ReadDocEnd, Watch};
 use rw_pattern::{Pattern, PatternFault, PatternParts};
-use rw_schema::{Schema, Text};
+use rw_schema::{LONGEST_NAME, Schema, Text};
 use serde_json::Value;
 use std::alloc::Global;
 
 /// The greatest number of watches.
 const MOST_WATCHES: usize = 64;
-
-/// The greatest number of bytes of a name.
-const LONGEST_NAME: usize = 255;
 
 /// The pattern of the lists.
 fn pattern_of(

@@ -33,7 +33,7 @@ pub use part_map::PartMap;
 pub use parts::{ArrowDef, AttrDef, Equation, SchemaParts};
 pub use path::Path;
 pub use rows::Rows;
-pub use schema::Schema;
+pub use schema::{LONGEST_NAME, MOST_ARROWS, MOST_OBJECTS, Schema};
 pub use section::Section;
 pub use signature::{ArrowEnds, AttrEnds};
 pub use text::Text;
