@@ -1,6 +1,6 @@
 -- Completeness follows from how a call ends.
-use Rattle.std.proofs.Common.{◌≡◌, ◌+◌, ◌≤◌, ◌<◌, ℕ, zero, List, [], ◌∷◌, ◌++◌, length, take, Option, Some, None, Err, refl, sym, ap, subst, ◌∙◌, ◌⊎◌, inl, inr, append-nil, length-append, arith}
-use Rattle.std.specs.Io.KnownBytes.{Consumes, IsAtEnd, Appends, Keeps}
+use Rattle.std.proofs.Common.{◌≡◌, ◌+◌, ◌≤◌, ◌<◌, ℕ, List, ◌++◌, length, Option, Some, None, Err, refl, sym, ap, subst, ◌∙◌, inl, inr, append-nil, length-append, arith}
+use Rattle.std.specs.Io.KnownBytes.{Appends, Keeps}
 use Rattle.rw_outside.specs.declared.writing.WriteEnd.{WriteEnd}
 use Rattle.rw_outside.specs.declared.writing.WriteEnd.TheVariants.{Fault}
 use Rattle.rw_outside.specs.Faults.{Rose}
@@ -10,7 +10,7 @@ use Rattle.rw_app.specs.declared.status.Status.{Status}
 use Rattle.rw_app.specs.declared.status.Status.TheVariants.{Done, BadWords, Refused, NoMemory, ReadFault, WriteFault, TooLong}
 use Rattle.rw_app.specs.Answers.{AnswerText}
 use Rattle.rw_app.specs.Commands.{Request}
-use Rattle.rw_app.specs.Endings.{Outside, most_bytes, AppendsPart, Answered, Ends, EndsAsAsked, Written, IsWhole, IsComplete}
+use Rattle.rw_app.specs.Endings.{Outside, most_bytes, AppendsPart, Answered, Ends, EndsAsAsked, IsWhole, IsComplete}
 
 -- a text that was not written whole has had a beginning written
 pub part_written : (text : List ℕ) (held now : Option (List ℕ)) (end : WriteEnd) → WritesAll text held now (Err end) → AppendsPart held now text

@@ -1,5 +1,5 @@
 -- What is found is one of the items.
-use Rattle.std.proofs.Common.{◌≡◌, ℕ, suc, ◌<◌, Bool, true, false, cond, List, [], ◌∷◌, Option, Some, None, find, refl, subst, arith}
+use Rattle.std.proofs.Common.{◌≡◌, suc, Bool, true, false, cond, List, [], ◌∷◌, Option, Some, find, subst, arith}
 use Rattle.std.specs.List.{All}
 
 -- what holds of the first of some items and of the one found later holds of the one found

@@ -1,12 +1,12 @@
 -- What a call of the program's commands does to the source and the sink that it is lent.
 use Rattle.std.specs.Prelude.{◌≡◌, ◌≤◌, ◌<◌, ◌⊎◌, ℕ, List, length, take, Option, Some, None}
-use Rattle.std.specs.Io.KnownBytes.{Consumes, IsAtEnd, Appends, Keeps}
+use Rattle.std.specs.Io.KnownBytes.{IsAtEnd, Appends, Keeps}
 use Rattle.rw_outside.specs.Faults.{Rose}
 use Rattle.rw_outside.specs.Reading.{Came, IsReadWhole}
 use Rattle.rw_app.specs.declared.status.Status.{Status}
 use Rattle.rw_app.specs.declared.status.Status.TheVariants.{Done, BadWords, Refused, NoMemory, ReadFault, WriteFault, TooLong}
 use Rattle.rw_app.specs.Answers.{AnswerText}
-use Rattle.rw_app.specs.Commands.{Request, request_of, usage}
+use Rattle.rw_app.specs.Commands.{Request, usage}
 
 -- the greatest number of bytes that are read
 abbrev pub most_bytes : ℕ

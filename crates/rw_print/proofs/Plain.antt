@@ -1,7 +1,6 @@
 -- The values of lines have no floats, so each has one text.
 use Rattle.std.proofs.Common.{◌≡◌, ℕ, false, List, [], ◌∷◌, map, refl}
 use Rattle.serde_json.specs.Data.{Data}
-use Rattle.serde_json.specs.View.{items_of}
 use Rattle.serde_json.specs.Written.{has_float}
 use Rattle.rw_print.specs.Lines.{list_data, tuple_data, matches_data, count_data}
 

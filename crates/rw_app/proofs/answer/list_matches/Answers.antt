@@ -1,4 +1,4 @@
-use Rattle.std.proofs.Common.{◌≡◌, None, sym, ap, subst, ◌∙◌}
+use Rattle.std.proofs.Common.{◌≡◌, None, sym}
 use Rattle.std.specs.Str.{bytes_eq}
 use Rattle.rw_schema.specs.Presentation.{signature_of}
 use Rattle.rw_pattern.specs.PatternFaults.{pattern_fault}

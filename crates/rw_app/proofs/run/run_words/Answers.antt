@@ -1,7 +1,4 @@
-use Rattle.std.proofs.Common.{map, string_bytes}
 use Rattle.rw_app.proofs.Complete.{complete_from_ends}
-use Rattle.rw_app.specs.Answers.{answer_of}
-use Rattle.rw_app.specs.Commands.{request_of}
 use Rattle.rw_app.proofs.run.run_words.Goals as goal
 
 pub returns-clause-complete : goal.returns-clause-complete
