@@ -1,20 +1,15 @@
 -- When lists are a rule, and the first fault of those that are none.
-use Rattle.std.specs.Prelude.{◌≡◌, ◌==◌, ℕ, Bool, true, not, ◌&&◌, is_none, length, List, [], ◌∷◌, Option, Some, None, Result, Ok, Err}
-use Rattle.std.specs.List.{list_any}
+use Rattle.std.specs.Prelude.{◌≡◌, ℕ, Bool, ◌&&◌, is_none, length, List, Option, Some, None, Result, Ok, Err}
 use Rattle.rw_schema.specs.First.{or_else, fault_unless, all_in}
 use Rattle.rw_schema.specs.RowLists.{list_at}
 use Rattle.rw_schema.specs.Signature.{Signature}
+use Rattle.rw_spec.specs.Distinct.{are_distinct}
 use Rattle.rw_pattern.specs.MapFaults.{map_fault}
 use Rattle.rw_pattern.specs.PatternFaults.{pattern_fault}
 use Rattle.rw_pattern.specs.PatternLists.{PatternLists}
-use Rattle.rw_rule.specs.RuleLists.{RuleLists}
+use Rattle.rw_rule.specs.RuleLists.{GoalLists, RuleLists}
 use Rattle.rw_rule.specs.declared.fault.RuleFault.{RuleFault}
 use Rattle.rw_rule.specs.declared.fault.RuleFault.TheVariants.{NotHom, NotInjective}
-
--- no number stands in the list twice
-abbrev pub are_distinct : List ℕ → Bool
-are_distinct [] = true
-are_distinct (image ∷ images) = not (list_any (λ other. other == image) images) && are_distinct images
 
 -- the images of an object's parts are different
 abbrev pub has_distinct_images : List (List ℕ) → ℕ → ℕ → Bool
@@ -32,12 +27,21 @@ are_maps C rule = is_none (map_fault C rule.keep rule.goal.left rule.l) && is_no
 abbrev pub rule_fault : Signature → RuleLists → Option RuleFault
 rule_fault C rule = or_else (fault_unless (are_maps C rule) NotHom) (fault_unless (is_injective rule.keep rule.l) NotInjective)
 
--- the patterns are over the signature, and each object has one entry in the list of monic objects
+-- the pattern is over the signature, and each object has one entry in the list of monic objects
+pub record IsGoalOver (C : Signature) (goal : GoalLists) : Type 0 where
+  pub left : pattern_fault C goal.left ≡ None
+  pub monic : length goal.monic ≡ C.objects
+
+-- the patterns are over the signature
 pub record AreOver (C : Signature) (rule : RuleLists) : Type 0 where
-  pub left : pattern_fault C rule.goal.left ≡ None
+  pub goal : IsGoalOver C rule.goal
   pub keep : pattern_fault C rule.keep ≡ None
   pub right : pattern_fault C rule.right ≡ None
-  pub monic : length rule.goal.monic ≡ C.objects
+
+-- the lists are a rule over the signature
+pub record IsRuleOver (C : Signature) (rule : RuleLists) : Type 0 where
+  pub parts : AreOver C rule
+  pub sound : rule_fault C rule ≡ None
 
 -- what a build of the lists answers
 abbrev pub BuildsRule : Signature → RuleLists → Result RuleLists RuleFault → Type 0

@@ -17,3 +17,8 @@ pub record RuleLists : Type 0 where
   pub right : PatternLists
   pub l : List (List ℕ)
   pub r : List (List ℕ)
+
+-- a goal with a name
+pub record WatchLists : Type 0 where
+  pub name : List ℕ
+  pub goal : GoalLists

@@ -1,7 +1,8 @@
 -- The lists of a rule's parts.
 use Rattle.rw_rule.specs.declared.goal.Goal.{Goal}
 use Rattle.rw_rule.specs.declared.parts.RuleParts.{RuleParts}
-use Rattle.rw_rule.specs.RuleLists.{GoalLists, RuleLists}
+use Rattle.rw_rule.specs.declared.watch.Watch.{Watch}
+use Rattle.rw_rule.specs.RuleLists.{GoalLists, RuleLists, WatchLists}
 
 -- the lists of what is looked for
 abbrev pub goal_of_parts : Goal → GoalLists
@@ -18,3 +19,7 @@ rule_of_parts parts = record {
   l = parts.l;
   r = parts.r;
 }
+
+-- the lists of a watch
+abbrev pub lists_of_watch : Watch → WatchLists
+lists_of_watch watch = record { name = watch.name; goal = goal_of_parts watch.goal }

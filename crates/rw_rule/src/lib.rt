@@ -7,6 +7,7 @@ mod kind;
 mod parts;
 mod refusal;
 mod rule;
+mod watch;
 
 pub use fault::RuleFault;
 pub use goal::Goal;
@@ -14,6 +15,7 @@ pub use kind::RuleKind;
 pub use parts::RuleParts;
 pub use refusal::Refusal;
 pub use rule::Rule;
+pub use watch::Watch;
 
 #[cfg(test)]
 mod tests;

@@ -1,15 +1,14 @@
 //! Rewriting rules.
 
-ghost use Rattle.std.specs.Prelude.{◌≡◌, ◌≤◌, ◌==◌, None, is_none, length};
-ghost use Rattle.std.specs.List.{list_any};
+ghost use Rattle.std.specs.Prelude.{◌≡◌, ◌≤◌, None, is_none, length};
 ghost use Rattle.rw_schema.specs.Presentation.{signature_of};
 ghost use Rattle.rw_pattern.specs.MapFaults.{map_fault};
 ghost use Rattle.rw_pattern.specs.PatternFaults.{pattern_fault};
-ghost use Rattle.rw_rule.specs.RuleFaults.{AreOver, BuildsRule, are_distinct, are_maps, is_injective};
+ghost use Rattle.rw_rule.specs.RuleFaults.{AreOver, BuildsRule, are_maps, is_injective};
 ghost use Rattle.rw_rule.specs.RuleParts.{goal_of_parts, rule_of_parts};
 
 use crate::{Goal, RuleFault, RuleKind, RuleParts};
-use rw_pattern::{Pattern, check_map};
+use rw_pattern::{Pattern, check_map, is_each_once};
 use rw_schema::{ObjectId, PartMap, Schema, Text};
 use std::marker::Model;
 
@@ -155,23 +154,4 @@ fn is_one_to_one(from: &Pattern, images: &PartMap) -> bool
         }
     }
     true
-}
-
-/// Whether no number stands in the list twice.
-fn is_each_once(images: &[u32]) -> bool
-    ensures { result ≡ are_distinct images.now }
-{
-    for (place, image) in images.iter().enumerate() {
-        if has(&images[place + 1..], *image) {
-            return false;
-        }
-    }
-    true
-}
-
-/// Whether the number is in the list.
-fn has(images: &[u32], image: u32) -> bool
-    ensures { result ≡ list_any (λ other. other == image) images.now }
-{
-    images.iter().any(|other| *other == image)
 }

@@ -1,6 +1,7 @@
 -- Instances of a schema as the field has them: a set of names for each object, a function for each arrow, a cell
 -- for each name of an attribute's object.
-use Rattle.std.specs.Prelude.{◌≡◌, ◌==◌, ℕ, cond, List, [], ◌∷◌, Option, Some, None, Contains, slice_get}
+use Rattle.std.specs.Prelude.{◌≡◌, ◌==◌, ℕ, cond, List, [], ◌∷◌, map, Option, Some, None, Contains, slice_get}
+use Rattle.std.specs.List.{range_with_len}
 use Rattle.rw_schema.specs.declared.atom.Atom.{Atom}
 use Rattle.rw_schema.specs.declared.atom.Atom.TheVariants as atoms
 use Rattle.rw_schema.specs.declared.atom.Kind.{Kind}
@@ -9,6 +10,7 @@ use Rattle.rw_schema.specs.declared.ids.ArrowId.{ArrowId}
 use Rattle.rw_schema.specs.declared.parts.Equation.{Equation}
 use Rattle.rw_schema.specs.declared.signature.ArrowEnds.{ArrowEnds}
 use Rattle.rw_schema.specs.declared.signature.AttrEnds.{AttrEnds}
+use Rattle.rw_schema.specs.First.{map_in}
 use Rattle.rw_schema.specs.RowLists.{RowLists, list_at}
 use Rattle.rw_schema.specs.Signature.{Signature, source_of, holder_of}
 
@@ -57,4 +59,13 @@ instance_of C rows = record {
   names = λ object. list_at rows.names object;
   value = λ a x. look 0 (list_at rows.names (source_of C a)) (list_at rows.arrows a) x;
   cell = λ c x. look None (list_at rows.names (holder_of C c)) (list_at rows.cells c) x;
+}
+
+-- the lists that an instance is kept in, with the next names
+abbrev pub lists_of : Signature → Instance → List ℕ → RowLists
+lists_of C X next = record {
+  names = map X.names (range_with_len 0 C.objects);
+  arrows = map_in (λ a ends. map (X.value a) (X.names ends.source.0)) 0 C.arrows;
+  cells = map_in (λ c ends. map (X.cell c) (X.names ends.object.0)) 0 C.attributes;
+  next = next;
 }
