@@ -1,3 +1,4 @@
+pub mod PlainRules
 pub mod RuleFaults
 pub mod RuleLists
 pub mod RuleParts

@@ -144,7 +144,7 @@ fn is_map(schema: &Schema, from: &Pattern, to: &Pattern, images: &PartMap) -> bo
 }
 
 /// Whether no two parts of one object have one image.
-fn is_one_to_one(from: &Pattern, images: &PartMap) -> bool
+pub(crate) fn is_one_to_one(from: &Pattern, images: &PartMap) -> bool
     requires { length from.now.sizes ≤ length images.now }
     ensures { result ≡ is_injective from.now images.now }
 {

@@ -1,0 +1,2 @@
+pub mod Obstructions
+pub mod PlainStep

@@ -1,0 +1,84 @@
+-- The step of a plain double-pushout rule at a match, said part by part. L, K and R are the left, the kept and the right
+-- pattern, l and r the maps from K; X is the instance before, with one next name for each object; the match is a tuple.
+use Rattle.std.specs.Prelude.{◌==◌, ℕ, ◌+◌, ◌-◌, Bool, not, ◌&&◌, nat_lt, length, map, filter, List, ◌++◌, Option, Some, None, slice_index, position, if◌then◌else◌}
+use Rattle.std.specs.List.{list_any, range_with_len}
+use Rattle.rw_schema.specs.RowLists.{RowLists, list_at}
+use Rattle.rw_schema.specs.Signature.{Signature, source_of}
+use Rattle.rw_spec.specs.Instance.{Instance, instance_of, lists_of}
+use Rattle.rw_pattern.specs.MapFaults.{image_of}
+use Rattle.rw_pattern.specs.PatternLists.{PatternLists, size_of, map_of_tuple}
+use Rattle.rw_rule.specs.RuleLists.{RuleLists}
+
+-- the object that an arrow enters
+abbrev pub target_of : Signature → ℕ → ℕ
+target_of C arrow = slice_index (map (λ ends. ends.target.0) C.arrows) arrow
+
+-- the parts of an object
+abbrev pub parts_of : PatternLists → ℕ → List ℕ
+parts_of pattern object = range_with_len 0 (size_of pattern object)
+
+-- the part is the image of a part
+abbrev pub is_image : List (List ℕ) → ℕ → ℕ → Bool
+is_image images object part = list_any (λ image. image == part) (list_at images object)
+
+-- the match gives the name to a part of L
+abbrev pub is_matched : RuleLists → List ℕ → ℕ → ℕ → Bool
+is_matched rule tuple object name =
+    list_any (λ part. map_of_tuple rule.goal.left tuple object part == name) (parts_of rule.goal.left object)
+
+-- the match gives the name to a part of L outside the image of l
+abbrev pub is_removed : RuleLists → List ℕ → ℕ → ℕ → Bool
+is_removed rule tuple object name =
+    list_any (λ part. not (is_image rule.l object part) && map_of_tuple rule.goal.left tuple object part == name) (parts_of rule.goal.left object)
+
+-- the new parts: those of R outside the image of r
+abbrev pub new_parts : RuleLists → ℕ → List ℕ
+new_parts rule object = filter (λ part. not (is_image rule.r object part)) (parts_of rule.right object)
+
+-- how many new parts there are before a part
+abbrev pub new_before : RuleLists → ℕ → ℕ → ℕ
+new_before rule object part = length (filter (λ other. not (is_image rule.r object other)) (range_with_len 0 part))
+
+-- the next name after the step: each new part has taken one
+abbrev pub next_after : RuleLists → List ℕ → ℕ → ℕ
+next_after rule next object = slice_index next object + length (new_parts rule object)
+
+-- the names after the step: those that are not removed, and then the next names, one for each new part
+abbrev pub names_after : RuleLists → List ℕ → Instance → List ℕ → ℕ → List ℕ
+names_after rule tuple X next object =
+    filter (λ name. not (is_removed rule tuple object name)) (X.names object)
+    ++ range_with_len (slice_index next object) (length (new_parts rule object))
+
+-- the name of the image of a kept part, or the name of a new part
+abbrev pub name_from : RuleLists → List ℕ → List ℕ → ℕ → ℕ → Option ℕ → ℕ
+name_from rule tuple next object part (Some kept) = map_of_tuple rule.goal.left tuple object (image_of rule.l object kept)
+name_from rule tuple next object part None = slice_index next object + new_before rule object part
+
+-- the name that a part of R has after the step: that of the kept part whose image it is, else its own new name
+abbrev pub name_of_right : RuleLists → List ℕ → List ℕ → ℕ → ℕ → ℕ
+name_of_right rule tuple next object part =
+    name_from rule tuple next object part (position (λ image. image == part) (list_at rule.r object))
+
+-- the new part that has the name
+abbrev pub part_of_name : RuleLists → List ℕ → ℕ → ℕ → ℕ
+part_of_name rule next object name = slice_index (new_parts rule object) (name - slice_index next object)
+
+-- the value of an arrow after the step: at an earlier name it stays, at a new part's name it is that of R's row
+abbrev pub value_after : Signature → RuleLists → List ℕ → Instance → List ℕ → ℕ → ℕ → ℕ
+value_after C rule tuple X next arrow name =
+    if nat_lt name (slice_index next (source_of C arrow)) then X.value arrow name
+    else name_of_right rule tuple next (target_of C arrow)
+    (slice_index (list_at rule.right.rows arrow) (part_of_name rule next (source_of C arrow) name))
+
+-- the instance after the step
+abbrev pub instance_after : Signature → RuleLists → List ℕ → Instance → List ℕ → Instance
+instance_after C rule tuple X next = record {
+  names = names_after rule tuple X next;
+  value = value_after C rule tuple X next;
+  cell = X.cell;
+}
+
+-- the lists after the step
+abbrev pub rows_after : Signature → RuleLists → List ℕ → RowLists → RowLists
+rows_after C rule tuple rows =
+    lists_of C (instance_after C rule tuple (instance_of C rows) rows.next) (map (next_after rule rows.next) (range_with_len 0 C.objects))

@@ -1,0 +1,52 @@
+//! The step.
+
+ghost use Rattle.std.specs.Prelude.{◌≡◌, IfOk, true, None, Contains};
+ghost use Rattle.rw_schema.specs.Presentation.{signature_of};
+ghost use Rattle.rw_table.specs.Tabled.{IsOver, instance_of_table};
+ghost use Rattle.rw_pattern.specs.Matches.{matches};
+ghost use Rattle.rw_rule.specs.RuleFaults.{IsRuleOver};
+ghost use Rattle.rw_plain.specs.Obstructions.{IsVerdict};
+ghost use Rattle.rw_rule.specs.PlainRules.{is_plain};
+
+use crate::Verdict;
+use crate::dangling::first_dangling;
+use crate::growth::first_too_large;
+use crate::rows::rows_after;
+use rw_pattern::Tuple;
+use rw_rule::Rule;
+use rw_schema::{OutOfMemory, Schema};
+use rw_table::{Table, TableFault};
+use std::alloc::Global;
+
+/// Applies a plain double-pushout rule at a match, or gives the first obstruction. The table stays as it is; the
+/// instance after the step is made anew. Names of parts that stay are kept, each new part takes the next name of its
+/// object, and a name is never used again.
+///
+/// Ehrig, Pfender and Schneider, "Graph-grammars: an algebraic approach" (1973), define the step by two pushouts; where
+/// both maps and the match are injective it is this one.
+pub fn try_match(
+    alloc: Global,
+    schema: &Schema,
+    rule: &Rule,
+    table: &Table,
+    tuple: &Tuple,
+) -> Result<Verdict, OutOfMemory>
+    requires table { IsOver schema.now table.now }
+    requires rule { IsRuleOver (signature_of schema.now) rule.now }
+    requires plain { is_plain rule.now ≡ true }
+    requires tuple { Contains (matches (signature_of schema.now) rule.now.goal.left rule.now.goal.monic (instance_of_table table.now)) tuple.now }
+    ensures { IfOk result (IsVerdict (signature_of schema.now) rule.now tuple.now table.now.rows) }
+{
+    if let Some(refusal) = first_dangling(schema, rule, table, tuple) {
+        return Ok(Verdict::Refused(refusal));
+    }
+    if let Some(refusal) = first_too_large(rule, table.rows()) {
+        return Ok(Verdict::Refused(refusal));
+    }
+    let rows = rows_after(alloc, schema, rule, table, tuple)?;
+    match Table::new(alloc, schema, rows) {
+        Ok(after) => Ok(Verdict::Ready(after)),
+        Err(TableFault::OutOfMemory) => Err(OutOfMemory),
+        Err(_) => unreachable!(),
+    }
+}

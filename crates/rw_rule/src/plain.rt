@@ -1,0 +1,34 @@
+//! Which rules are plain.
+
+ghost use Rattle.std.specs.Prelude.{◌≡◌, ◌≤◌, length};
+ghost use Rattle.rw_schema.specs.Presentation.{signature_of};
+ghost use Rattle.rw_rule.specs.PlainRules.{is_plain as is_plain_rule, is_monic_where_many as is_monic_everywhere};
+ghost use Rattle.rw_rule.specs.RuleFaults.{IsRuleOver};
+
+use crate::Rule;
+use crate::rule::is_one_to_one;
+use rw_pattern::Pattern;
+use rw_schema::Schema;
+
+/// Whether the map to the right side is injective, and so is every match of the left side. It takes no memory.
+pub fn is_plain(schema: &Schema, rule: &Rule) -> bool
+    requires { IsRuleOver (signature_of schema.now) rule.now }
+    ensures { result ≡ is_plain_rule rule.now }
+{
+    let goal = rule.goal();
+    is_one_to_one(rule.keep(), rule.r())
+        && is_monic_where_many(&goal.left, goal.monic.as_slice())
+}
+
+/// Whether each object with two parts or more is monic.
+fn is_monic_where_many(pattern: &Pattern, monic: &[bool]) -> bool
+    requires { length monic.now ≤ length pattern.now.sizes }
+    ensures { result ≡ is_monic_everywhere pattern.now monic.now }
+{
+    for (object, monic) in monic.iter().enumerate() {
+        if !*monic && pattern.sizes()[object] > 1 {
+            return false;
+        }
+    }
+    true
+}
