@@ -1,7 +1,6 @@
 -- When the lists of an instance have no fault.
-use Rattle.std.proofs.Common.{◌≡◌, ◌==◌, ◌∙◌, ℕ, zero, suc, ◌+◌, ◌<◌, Bool, true, List, [], ◌∷◌, length, map, Option, Some, None, slice_get, slice_index, refl, sym, add-zero, zero-add, arith, eq-eqb}
+use Rattle.std.proofs.Common.{◌≡◌, ◌==◌, ◌∙◌, ℕ, zero, suc, ◌+◌, ◌<◌, true, List, [], ◌∷◌, length, map, Option, Some, None, slice_get, slice_index, refl, sym, add-zero, zero-add, arith, eq-eqb}
 use Rattle.std.specs.List.{Contains, list_any, range_with_len}
-use Rattle.std.proofs.lemmas.Bool.{and_from}
 use Rattle.std.proofs.lemmas.List.{length-map}
 use Rattle.std.proofs.lemmas.List.FromFn.{length-map-range_with_len, get_or-map-range_with_len}
 use Rattle.std.proofs.lemmas.Option.{slice_get_within, get_or_from_slice_get}
@@ -16,17 +15,7 @@ use Rattle.rw_spec.proofs.Look.{found_contained}
 use Rattle.rw_table.specs.TableFaults.{has_length, has_shape, are_names, names_fault, row_fault, range_fault, table_fault}
 use Rattle.rw_table.specs.declared.fault.TableFault.{TableFault}
 use Rattle.rw_table.specs.declared.fault.TableFault.TheVariants.{Names, Range}
-use Rattle.rw_pattern.proofs.Sequences.{contains_at}
-
--- a test with places holds of all items where it holds of each
-all_in_from : {X : Type 0} (test : ℕ → X → Bool) (i : ℕ) (xs : List X)
-    → ((k : ℕ) (x : X) → slice_get xs k ≡ Some x → test (i + k) x ≡ true) → all_in test i xs ≡ true
-all_in_from test i [] each = refl
-all_in_from test i (x ∷ xs) each =
-    and_from (test i x) (all_in test (i + 1) xs) (rw add-zero at (each zero x refl))
-    (all_in_from test (i + 1) xs (λ k y there.
-    let same : i + suc k ≡ (i + 1) + k = omega arith in
-    rw (← same) (each (suc k) y there)))
+use Rattle.rw_pattern.proofs.Sequences.{contains_at, all_in_from_each}
 
 -- there is no first fault where no item has one
 none_from : {X A : Type 0} (f : ℕ → X → Option A) (i : ℕ) (xs : List X)
@@ -41,7 +30,7 @@ none_from f i (x ∷ xs) each =
     rw (here, later) refl
 
 -- there is no first fault in a list from place 0 where no item has one
-pub none_from_0 : {X A : Type 0} (f : ℕ → X → Option A) (xs : List X)
+none_from_0 : {X A : Type 0} (f : ℕ → X → Option A) (xs : List X)
     → ((k : ℕ) (x : X) → slice_get xs k ≡ Some x → f k x ≡ None) → first_in f 0 xs ≡ None
 none_from_0 f xs each = none_from f 0 xs (λ k x there. rw (zero-add k) (each k x there))
 
@@ -50,7 +39,7 @@ abbrev pub listed : Signature → Instance → (ℕ → ℕ) → RowLists
 listed C Y next = lists_of C Y (map next (range_with_len 0 C.objects))
 
 -- the names of an object in the lists are its names
-pub names_listed : (C : Signature) (Y : Instance) (next : ℕ → ℕ) (object : ℕ) → object < C.objects
+names_listed : (C : Signature) (Y : Instance) (next : ℕ → ℕ) (object : ℕ) → object < C.objects
     → list_at (listed C Y next).names object ≡ Y.names object
 names_listed C Y next object known = get_or-map-range_with_len Y.names 0 C.objects object object [] known (zero-add object)
 
@@ -70,7 +59,7 @@ shape_listed C Y next category =
     let arrows_long : length rows.arrows ≡ length C.arrows =
     length_map_in (λ a (ends : ArrowEnds). map (Y.value a) (Y.names ends.source.0)) 0 C.arrows in
     let whole : all_in (has_length rows) 0 C.arrows ≡ true =
-    all_in_from (has_length rows) 0 C.arrows (λ a ends there.
+    all_in_from_each (has_length rows) 0 C.arrows (λ a ends there.
     let row_long : length (list_at rows.arrows a) ≡ length (list_at rows.names ends.source.0) =
     rw (row_listed C Y next a ends there, names_listed C Y next ends.source.0 (category.sources a ends there))
     (length-map (Y.names ends.source.0) (Y.value a)) in

@@ -19,7 +19,7 @@ use Rattle.rw_plain.specs.PlainStep.{is_removed, new_parts, next_after, names_af
 use Rattle.rw_plain.proofs.Ascents.{ascends_filter, ascends_append, ascends_range, range_bounds}
 
 -- the names of an object ascend below its next name
-pub names_known : (C : Signature) (rows : RowLists) (object : ℕ) → table_fault C rows ≡ None → object < C.objects
+names_known : (C : Signature) (rows : RowLists) (object : ℕ) → table_fault C rows ≡ None → object < C.objects
     → are_names (slice_index rows.next object) (list_at rows.names object) ≡ true
 names_known C rows object none known =
     let checked : AreChecked C rows = checked_known C rows none in

@@ -17,7 +17,7 @@ use Rattle.rw_table.proofs.TableInstance.{table_functions}
 use Rattle.rw_pattern.specs.MapFaults.{image_of}
 use Rattle.rw_pattern.specs.PatternLists.{size_of, instance_of_pattern, map_of_tuple}
 use Rattle.rw_pattern.proofs.Maps.{is_map, images_long, natural_from_map}
-use Rattle.rw_pattern.proofs.Naturality.{part_below, has_part}
+use Rattle.rw_pattern.proofs.PartNames.{part_below, has_part}
 use Rattle.rw_pattern.proofs.Sequences.{contained_in_filter}
 use Rattle.rw_pattern.proofs.Shapes.{is_pattern}
 use Rattle.rw_rule.specs.RuleFaults.{IsRuleOver}
@@ -37,7 +37,7 @@ range_split start (suc first) later =
     let same : (start + 1) + first ≡ start + suc first = omega arith in
     rw (one_more, range_split (start + 1) first later, same) refl
 
--- fewer numbers below one that passes a test pass it than in a longer range
+-- below a number that passes a test, fewer numbers pass it than in a longer range
 passes_before : (p : ℕ → Bool) (part later : ℕ) → p part ≡ true
     → length (filter p (range_with_len 0 part)) < length (filter p (range_with_len 0 (part + suc later)))
 passes_before p part later passes =

@@ -14,7 +14,7 @@ use Rattle.rw_pattern.specs.MapFaults.{image_of, has_map_shape}
 use Rattle.rw_pattern.specs.PatternFaults.{pattern_fault}
 use Rattle.rw_pattern.specs.PatternLists.{PatternLists, size_of}
 use Rattle.rw_pattern.proofs.Maps.{images_long}
-use Rattle.rw_pattern.proofs.Naturality.{part_below}
+use Rattle.rw_pattern.proofs.PartNames.{part_below}
 use Rattle.rw_pattern.proofs.Shapes.{is_pattern, row_long, image_within}
 use Rattle.rw_plain.specs.PlainStep.{parts_of, is_image}
 

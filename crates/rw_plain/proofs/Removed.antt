@@ -11,7 +11,7 @@ use Rattle.rw_spec.specs.Natural.{IsNatural}
 use Rattle.rw_pattern.specs.MapFaults.{image_of, has_map_shape}
 use Rattle.rw_pattern.specs.PatternLists.{size_of, instance_of_pattern, map_of_tuple}
 use Rattle.rw_pattern.proofs.Maps.{is_map, natural_from_map}
-use Rattle.rw_pattern.proofs.Naturality.{part_below, has_part}
+use Rattle.rw_pattern.proofs.PartNames.{part_below, has_part}
 use Rattle.rw_pattern.proofs.Shapes.{is_pattern}
 use Rattle.rw_rule.specs.RuleFaults.{IsRuleOver}
 use Rattle.rw_rule.specs.RuleLists.{RuleLists}
@@ -56,7 +56,7 @@ kept_stays C rule tuple X object kept over match known there =
     both_ways (is_image rule.l object found.0) (not-true (is_image rule.l object found.0) both.0) (rw same inside))
 
 -- a name that is matched and is not removed is that of a kept part
-pub matched_kept : (C : Signature) (rule : RuleLists) (tuple : List ℕ) (object name : ℕ) → IsRuleOver C rule → object < C.objects
+matched_kept : (C : Signature) (rule : RuleLists) (tuple : List ℕ) (object name : ℕ) → IsRuleOver C rule → object < C.objects
     → is_matched rule tuple object name ≡ true → is_removed rule tuple object name ≡ false
     → (kept : ℕ) × (kept < size_of rule.keep object) × (map_of_tuple rule.goal.left tuple object (image_of rule.l object kept) ≡ name)
 matched_kept C rule tuple object name over known matched stays =
@@ -83,7 +83,7 @@ no_dangle C rule tuple X a ends name match there (k, within, is) =
     let here : fault (0 + k) name ≡ None = first_none fault 0 names at_safe k name (slice_get-get_or names k name within ∙ ap Some is) in
     not-true (dangles rule tuple X a ends name) (passed_unless (not (dangles rule tuple X a ends name)) (Dangling (record { 0 = a }) name) here)
 
--- where an arrow leads from the name of a kept part is the name of a kept part
+-- where an arrow leads from the name of a kept part is not removed
 value_kept : (C : Signature) (rule : RuleLists) (tuple : List ℕ) (X : Instance) (a : ℕ) (ends : ArrowEnds) (kept : ℕ) → IsCategory C → IsRuleOver C rule → IsPlainMatch C rule tuple X
     → slice_get C.arrows a ≡ Some ends → kept < size_of rule.keep ends.source.0
     → is_removed rule tuple ends.target.0 (X.value a (map_of_tuple rule.goal.left tuple ends.source.0 (image_of rule.l ends.source.0 kept))) ≡ false
