@@ -1,2 +1,3 @@
 pub mod Obstructions
 pub mod PlainStep
+pub mod RuleParts

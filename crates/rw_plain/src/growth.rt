@@ -1,14 +1,17 @@
 //! The new parts of the right side, and whether there is room for their names.
 
-ghost use Rattle.std.specs.Prelude.{◌≡◌, ◌<◌, ◌≤◌, IfOk, length, map};
+ghost use Rattle.std.specs.Prelude.{◌≡◌, ◌<◌, ◌≤◌, IfOk, None, nat_le, length, slice_index};
 ghost use Rattle.rw_schema.specs.Presentation.{signature_of};
+ghost use Rattle.rw_table.specs.Tabled.{IsOver};
 ghost use Rattle.rw_rule.specs.RuleFaults.{IsRuleOver};
-ghost use Rattle.rw_plain.specs.Obstructions.{too_large};
-ghost use Rattle.rw_plain.specs.PlainStep.{new_parts as new_parts_of, new_before as new_parts_before};
+ghost use Rattle.rw_plain.specs.Obstructions.{too_large, most_names};
+ghost use Rattle.rw_plain.specs.PlainStep.{new_parts as new_parts_of, new_before as new_parts_before, next_after as next_after_step};
+ghost use Rattle.rw_plain.specs.RuleParts.{HasObject};
 
-use crate::matched::is_image;
+use crate::matched::has;
 use rw_rule::{Refusal, Rule};
-use rw_schema::{ObjectId, OutOfMemory, Rows};
+use rw_schema::{ObjectId, OutOfMemory, Schema};
+use rw_table::Table;
 use std::alloc::Global;
 
 /// The greatest next name.
@@ -16,13 +19,12 @@ const MOST_NAMES: u64 = 16_777_216;
 
 /// The new parts of an object, ascending.
 pub(crate) fn new_parts(alloc: Global, rule: &Rule, object: ObjectId) -> Result<Vec<u32>, OutOfMemory>
-    requires object { object.0 < length rule.now.right.sizes }
-    requires images { object.0 < length rule.now.r }
+    requires { HasObject rule.now object.0 }
     ensures { IfOk result (λ parts. parts.items ≡ new_parts_of rule.now object.0) }
 {
     let mut parts = Vec::new(alloc);
     for part in 0..rule.right().size(object) {
-        if !is_image(rule.r().images(object), part) {
+        if !has(rule.r().images(object), part) {
             parts.push(part)?;
         }
     }
@@ -31,29 +33,56 @@ pub(crate) fn new_parts(alloc: Global, rule: &Rule, object: ObjectId) -> Result<
 
 /// How many new parts of an object there are before a part.
 pub(crate) fn new_before(rule: &Rule, object: ObjectId, part: u32) -> u32
-    requires images { object.0 < length rule.now.r }
+    requires { HasObject rule.now object.0 }
     ensures value { result ≡ new_parts_before rule.now object.0 part }
     ensures few { result ≤ part }
 {
     let mut count = 0;
     for other in 0..part {
-        if !is_image(rule.r().images(object), other) {
+        if !has(rule.r().images(object), other) {
             count += 1;
         }
     }
     count
 }
 
-/// The first object whose next name would pass the greatest one.
-pub(crate) fn first_too_large(rule: &Rule, rows: &Rows) -> Option<Refusal>
-    requires objects { length rows.now.next ≡ length rule.now.right.sizes }
-    requires images { length rows.now.next ≤ length rule.now.r }
-    ensures { result ≡ too_large rule.now rows.now.next }
+/// The next name of an object.
+pub(crate) fn next_of(table: &Table, object: ObjectId) -> u32
+    requires { object.0 < table.now.signature.objects }
+    ensures { result ≡ slice_index table.now.rows.next object.0 }
 {
-    for number in 0..rows.next_names() {
+    table.rows().next(object)
+}
+
+/// The next name of an object after the step.
+pub(crate) fn next_after(rule: &Rule, table: &Table, object: ObjectId) -> u32
+    requires known { object.0 < table.now.signature.objects }
+    requires object { HasObject rule.now object.0 }
+    requires room { next_after_step rule.now table.now.rows.next object.0 ≤ most_names }
+    ensures { result ≡ next_after_step rule.now table.now.rows.next object.0 }
+{
+    next_of(table, object) + new_before(rule, object, rule.right().size(object))
+}
+
+/// Whether the next name of an object after the step is at most the greatest one.
+fn has_room(rule: &Rule, table: &Table, object: ObjectId) -> bool
+    requires known { object.0 < table.now.signature.objects }
+    requires object { HasObject rule.now object.0 }
+    ensures { result ≡ nat_le (next_after_step rule.now table.now.rows.next object.0) most_names }
+{
+    let count = new_before(rule, object, rule.right().size(object));
+    u64::from(next_of(table, object)) + u64::from(count) <= MOST_NAMES
+}
+
+/// The first object whose next name would pass the greatest one.
+pub(crate) fn first_too_large(schema: &Schema, rule: &Rule, table: &Table) -> Option<Refusal>
+    requires table { IsOver schema.now table.now }
+    requires rule { IsRuleOver (signature_of schema.now) rule.now }
+    ensures { result ≡ too_large rule.now table.now.rows.next }
+{
+    for number in 0..schema.objects() {
         let object = ObjectId(number as u16);
-        let count = new_before(rule, object, rule.right().size(object));
-        if u64::from(rows.next(object)) + u64::from(count) > MOST_NAMES {
+        if !has_room(rule, table, object) {
             return Some(Refusal::TooLarge { object });
         }
     }

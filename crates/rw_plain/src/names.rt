@@ -1,18 +1,17 @@
 //! The names after the step.
 
-ghost use Rattle.std.specs.Prelude.{◌≡◌, ◌<◌, ◌≤◌, ◌+◌, ◌^◌, IfOk, map, length, sum};
-ghost use Rattle.std.specs.List.{range_with_len};
-ghost use Rattle.rw_schema.specs.Presentation.{signature_of};
-ghost use Rattle.rw_table.specs.Tabled.{IsOver, instance_of_table};
-ghost use Rattle.rw_rule.specs.RuleFaults.{IsRuleOver};
-ghost use Rattle.rw_plain.specs.Obstructions.{too_large};
-ghost use Rattle.rw_plain.specs.PlainStep.{names_after as names_after_step, next_after as next_after_step};
+ghost use Rattle.std.specs.Prelude.{◌≡◌, ◌<◌, ◌≤◌, IfOk, not, filter, length, sum};
+ghost use Rattle.rw_schema.specs.RowLists.{list_at};
+ghost use Rattle.rw_table.specs.Tabled.{instance_of_table};
+ghost use Rattle.rw_plain.specs.Obstructions.{most_names};
+ghost use Rattle.rw_plain.specs.PlainStep.{is_removed as is_removed_name, names_after as names_after_step, next_after as next_after_step};
+ghost use Rattle.rw_plain.specs.RuleParts.{HasObject};
 
-use crate::growth::new_before;
+use crate::growth::{next_after, next_of};
 use crate::matched::is_removed;
 use rw_pattern::Tuple;
 use rw_rule::Rule;
-use rw_schema::{ObjectId, OutOfMemory, Schema};
+use rw_schema::{ObjectId, OutOfMemory};
 use rw_table::Table;
 use std::alloc::Global;
 
@@ -24,19 +23,37 @@ pub(crate) fn names_after(
     tuple: &Tuple,
     object: ObjectId,
 ) -> Result<Vec<u32>, OutOfMemory>
-    requires left { object.0 < length rule.now.goal.left.sizes }
-    requires right { object.0 < length rule.now.right.sizes }
-    requires l { object.0 < length rule.now.l }
-    requires r { object.0 < length rule.now.r }
-    requires names { object.0 < table.now.signature.objects }
+    requires known { object.0 < table.now.signature.objects }
+    requires object { HasObject rule.now object.0 }
     requires tuple { length tuple.now ≡ sum rule.now.goal.left.sizes }
-    requires room { next_after_step rule.now table.now.rows.next object.0 ≤ 16777216 }
+    requires room { next_after_step rule.now table.now.rows.next object.0 ≤ most_names }
     ensures { IfOk result (λ names. names.items ≡ names_after_step rule.now tuple.now (instance_of_table table.now) table.now.rows.next object.0) }
 {
     let mut names = names_kept(alloc, rule, table, tuple, object)?;
-    let next = table.rows().next(object);
-    for place in 0..new_before(rule, object, rule.right().size(object)) {
-        names.push(next + place)?;
+    for name in next_of(table, object)..next_after(rule, table, object) {
+        names.push(name)?;
+    }
+    Ok(names)
+}
+
+/// The names of an object that are not removed.
+fn names_kept(
+    alloc: Global,
+    rule: &Rule,
+    table: &Table,
+    tuple: &Tuple,
+    object: ObjectId,
+) -> Result<Vec<u32>, OutOfMemory>
+    requires known { object.0 < table.now.signature.objects }
+    requires object { HasObject rule.now object.0 }
+    requires tuple { length tuple.now ≡ sum rule.now.goal.left.sizes }
+    ensures { IfOk result (λ names. names.items ≡ filter (λ name. not (is_removed_name rule.now tuple.now object.0 name)) (list_at table.now.rows.names object.0)) }
+{
+    let mut names = Vec::new(alloc);
+    for name in table.rows().names(object) {
+        if !is_removed(rule, tuple, object, *name) {
+            names.push(*name)?;
+        }
     }
     Ok(names)
 }

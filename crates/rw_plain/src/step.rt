@@ -3,6 +3,7 @@
 ghost use Rattle.std.specs.Prelude.{◌≡◌, IfOk, true, None, Contains};
 ghost use Rattle.rw_schema.specs.Presentation.{signature_of};
 ghost use Rattle.rw_table.specs.Tabled.{IsOver, instance_of_table};
+ghost use Rattle.rw_table.specs.TableFaults.{table_fault};
 ghost use Rattle.rw_pattern.specs.Matches.{matches};
 ghost use Rattle.rw_rule.specs.RuleFaults.{IsRuleOver};
 ghost use Rattle.rw_plain.specs.Obstructions.{IsVerdict};
@@ -14,7 +15,7 @@ use crate::growth::first_too_large;
 use crate::rows::rows_after;
 use rw_pattern::Tuple;
 use rw_rule::Rule;
-use rw_schema::{OutOfMemory, Schema};
+use rw_schema::{OutOfMemory, Rows, Schema};
 use rw_table::{Table, TableFault};
 use std::alloc::Global;
 
@@ -40,12 +41,21 @@ pub fn try_match(
     if let Some(refusal) = first_dangling(schema, rule, table, tuple) {
         return Ok(Verdict::Refused(refusal));
     }
-    if let Some(refusal) = first_too_large(rule, table.rows()) {
+    if let Some(refusal) = first_too_large(schema, rule, table) {
         return Ok(Verdict::Refused(refusal));
     }
     let rows = rows_after(alloc, schema, rule, table, tuple)?;
+    let after = table_of(alloc, schema, rows)?;
+    Ok(Verdict::Ready(after))
+}
+
+/// The table with lists that are an instance of the schema.
+fn table_of(alloc: Global, schema: &Schema, rows: Rows) -> Result<Table, OutOfMemory>
+    requires { table_fault (signature_of schema.now) rows ≡ None }
+    ensures { IfOk result (λ table. table ≡ record { signature = signature_of schema.now; rows = rows }) }
+{
     match Table::new(alloc, schema, rows) {
-        Ok(after) => Ok(Verdict::Ready(after)),
+        Ok(table) => Ok(table),
         Err(TableFault::OutOfMemory) => Err(OutOfMemory),
         Err(_) => unreachable!(),
     }

@@ -1,38 +1,61 @@
 //! The values of arrows after the step.
 
-ghost use Rattle.std.specs.Prelude.{◌≡◌, ◌<◌, ◌≤◌, ◌+◌, IfOk, None, map, length, sum, slice_index};
-ghost use Rattle.rw_schema.specs.Presentation.{signature_of, ends_of_arrow};
-ghost use Rattle.rw_table.specs.Tabled.{IsOver, instance_of_table};
-ghost use Rattle.rw_rule.specs.RuleFaults.{IsRuleOver};
-ghost use Rattle.rw_plain.specs.PlainStep.{name_of_right as name_after_step};
+ghost use Rattle.std.specs.Prelude.{◌≡◌, ◌<◌, None, length, sum};
+ghost use Rattle.rw_schema.specs.Presentation.{ends_of_arrow};
+ghost use Rattle.rw_pattern.specs.PatternLists.{size_of};
+ghost use Rattle.rw_table.specs.Tabled.{instance_of_table};
+ghost use Rattle.rw_plain.specs.Obstructions.{too_large};
+ghost use Rattle.rw_plain.specs.PlainStep.{new_parts as new_parts_of, next_after as next_after_step, name_of_right as name_of_right_part, value_after as value_after_step};
+ghost use Rattle.rw_plain.specs.RuleParts.{HasObject, HasArrow};
 
-use crate::growth::new_before;
+use crate::growth::{new_before, next_of};
 use rw_pattern::Tuple;
 use rw_rule::Rule;
-use rw_schema::{ObjectId, Schema};
+use rw_schema::{ArrowDef, ArrowId, ObjectId};
+use rw_table::Table;
+
+/// The value of an arrow after the step, at a name that its source then has. The new parts are those of its source.
+pub(crate) fn value_after(
+    rule: &Rule,
+    table: &Table,
+    tuple: &Tuple,
+    arrow: ArrowId,
+    ends: &ArrowDef,
+    new_parts: &[u32],
+    name: u32,
+) -> u32
+    requires arrow { HasArrow table.now.signature rule.now arrow.0 (ends_of_arrow ends.now) }
+    requires tuple { length tuple.now ≡ sum rule.now.goal.left.sizes }
+    requires room { too_large rule.now table.now.rows.next ≡ None }
+    requires parts { new_parts.now ≡ new_parts_of rule.now ends.now.source.0 }
+    requires name { name < next_after_step rule.now table.now.rows.next ends.now.source.0 }
+    ensures { result ≡ value_after_step table.now.signature rule.now tuple.now (instance_of_table table.now) table.now.rows.next arrow.0 name }
+{
+    let next = next_of(table, ends.source);
+    if name < next {
+        return table.value(arrow, name).unwrap_or(0);
+    }
+    let part = new_parts[(name - next) as usize];
+    let image = rule.right().row(arrow)[part as usize];
+    name_of_right(rule, table, tuple, ends.target, image)
+}
 
 /// The name that a part of the right side has after the step: that of the kept part whose image it is, else its own
 /// new name.
-pub(crate) fn name_of_right(
-    schema: &Schema,
-    rule: &Rule,
-    next: u32,
-    tuple: &Tuple,
-    object: ObjectId,
-    part: u32,
-) -> u32
-    requires rule { IsRuleOver (signature_of schema.now) rule.now }
-    requires object { object.0 < length schema.now.objects }
+fn name_of_right(rule: &Rule, table: &Table, tuple: &Tuple, object: ObjectId, part: u32) -> u32
+    requires known { object.0 < table.now.signature.objects }
+    requires object { HasObject rule.now object.0 }
     requires tuple { length tuple.now ≡ sum rule.now.goal.left.sizes }
-    requires part { part < slice_index rule.now.right.sizes object.0 }
-    requires room { next ≤ 16777216 }
-    ensures { (nexts : List ℕ) → slice_index nexts object.0 ≡ next → result ≡ name_after_step rule.now tuple.now nexts object.0 part }
+    requires room { too_large rule.now table.now.rows.next ≡ None }
+    requires part { part < size_of rule.now.right object.0 }
+    ensures { result ≡ name_of_right_part rule.now tuple.now table.now.rows.next object.0 part }
 {
-    match rule.r().images(object).iter().position(|image| *image == part) {
+    let images = rule.r().images(object);
+    match images.iter().position(|image| *image == part) {
         Some(kept) => {
             let image = rule.l().image(object, kept);
             tuple.names()[rule.goal().left.place(object, image)]
         }
-        None => next + new_before(rule, object, part),
+        None => next_of(table, object) + new_before(rule, object, part),
     }
 }

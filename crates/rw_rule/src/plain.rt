@@ -1,8 +1,8 @@
 //! Which rules are plain.
 
-ghost use Rattle.std.specs.Prelude.{◌≡◌, ◌≤◌, length};
+ghost use Rattle.std.specs.Prelude.{◌≡◌, ◌<◌, ◌≤◌, length};
 ghost use Rattle.rw_schema.specs.Presentation.{signature_of};
-ghost use Rattle.rw_rule.specs.PlainRules.{is_plain as is_plain_rule, is_monic_where_many as is_monic_everywhere};
+ghost use Rattle.rw_rule.specs.PlainRules.{is_plain as is_plain_rule, is_monic_where_many as is_monic_everywhere, is_single_or_monic as is_single_or_monic_object};
 ghost use Rattle.rw_rule.specs.RuleFaults.{IsRuleOver};
 
 use crate::Rule;
@@ -26,9 +26,17 @@ fn is_monic_where_many(pattern: &Pattern, monic: &[bool]) -> bool
     ensures { result ≡ is_monic_everywhere pattern.now monic.now }
 {
     for (object, monic) in monic.iter().enumerate() {
-        if !*monic && pattern.sizes()[object] > 1 {
+        if !is_single_or_monic(pattern, object, *monic) {
             return false;
         }
     }
     true
+}
+
+/// Whether the object is monic or has at most one part.
+fn is_single_or_monic(pattern: &Pattern, object: usize, monic: bool) -> bool
+    requires { object < length pattern.now.sizes }
+    ensures { result ≡ is_single_or_monic_object pattern.now object monic }
+{
+    monic || pattern.sizes()[object] <= 1
 }
