@@ -32,13 +32,20 @@ has_none (tuple ∷ tuples) = false
 abbrev pub numbered : ℕ → NewsLists → List (ℕ × NewsLists)
 numbered list news = if has_none news.gone && has_none news.new then [] else (list, news) ∷ []
 
+-- the number and the difference of the list there, where a tuple left it or entered it
+abbrev pub news_at : List (List (List ℕ)) → ℕ → List (List ℕ) → List (ℕ × NewsLists)
+news_at afters list before = numbered list (difference before (list_at afters list))
+
 -- of each list with a tuple gone or new, by ascending number, its number and its difference
 abbrev pub differences : List (List (List ℕ)) → List (List (List ℕ)) → List (ℕ × NewsLists)
-differences befores afters = flat_map_in (λ list before. numbered list (difference before (list_at afters list))) 0 befores
+differences befores afters = flat_map_in (news_at afters) 0 befores
 
 -- the lists of what a call gives
 abbrev pub lists_of_news : ListNews → NewsLists
 lists_of_news news = record { gone = news.gone.items; new = news.new.items }
 
+abbrev pub lists_of_entry : ℕ × ListNews → ℕ × NewsLists
+lists_of_entry entry = (entry.0, lists_of_news entry.1)
+
 abbrev pub numbered_lists : ListsNews → List (ℕ × NewsLists)
-numbered_lists news = map (λ entry. (entry.0, lists_of_news entry.1)) news.lists.items
+numbered_lists news = map lists_of_entry news.lists.items

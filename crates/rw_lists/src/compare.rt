@@ -1,7 +1,7 @@
 //! The differences of kept lists.
 
-ghost use Rattle.std.specs.Prelude.{◌≡◌, ◌<◌, ◌^◌, IfOk, length, map};
-ghost use Rattle.rw_lists.specs.News.{is_in as is_in_list, without as without_list, has_none, difference as difference_of, differences as differences_of, lists_of_news, numbered_lists};
+ghost use Rattle.std.specs.Prelude.{◌≡◌, ◌<◌, ◌^◌, ◌++◌, ◌&&◌, IfOk, OnOk, length, map};
+ghost use Rattle.rw_lists.specs.News.{is_in as is_in_list, without as without_list, has_none, numbered, difference as difference_of, differences as differences_of, lists_of_news, lists_of_entry, numbered_lists};
 
 use crate::{ListNews, ListsNews};
 use rw_pattern::Tuple;
@@ -22,11 +22,30 @@ pub fn differences(
     let mut lists = Vec::new(alloc);
     for (number, list) in before.iter().enumerate() {
         let news = difference(alloc, list.as_slice(), after[number].as_slice())?;
-        if !news.gone.is_empty() || !news.new.is_empty() {
-            lists.push((number as u32, news))?;
-        }
+        push_changed(&mut lists, number as u32, news)?;
     }
     Ok(ListsNews { lists })
+}
+
+/// Puts the list's number and its difference behind the others, unless the list stayed as it was.
+fn push_changed(
+    lists: &mut Vec<(u32, ListNews)>,
+    number: u32,
+    news: ListNews,
+) -> Result<(), OutOfMemory>
+    ensures { OnOk result (map lists_of_entry lists.new.items ≡ map lists_of_entry lists.old.items ++ numbered number (lists_of_news news)) }
+{
+    if !is_unchanged(&news) {
+        lists.push((number, news))?;
+    }
+    Ok(())
+}
+
+/// Whether no tuple left the list and none entered it.
+fn is_unchanged(news: &ListNews) -> bool
+    ensures { result ≡ has_none news.now.gone.items && has_none news.now.new.items }
+{
+    news.gone.is_empty() && news.new.is_empty()
 }
 
 /// What left the list, and what entered it.
