@@ -6,12 +6,13 @@ use Rattle.rw_rule.specs.RuleLists.{WatchLists}
 use Rattle.rw_doc.specs.declared.fault.DocFault.{DocFault}
 use Rattle.rw_doc.specs.Documents.{read_document}
 use Rattle.rw_doc.specs.Models.{DocumentLists}
-use Rattle.rw_print.specs.declared.end.End.{End}
-use Rattle.rw_print.specs.declared.end.End.TheVariants as ends
+use Rattle.rw_print.specs.declared.last.End.{End}
+use Rattle.rw_print.specs.declared.last.End.TheVariants as ends
 use Rattle.rw_print.specs.Lines.{line, matches_data, fault_data}
 use Rattle.rw_app.specs.declared.status.Status.{Status}
 use Rattle.rw_app.specs.declared.status.Status.TheVariants.{Done, Refused, Failed, Spent}
-use Rattle.rw_app.specs.Commands.{Request, matches, run}
+use Rattle.rw_app.specs.Commands.{Request}
+use Rattle.rw_app.specs.Commands as commands
 use Rattle.rw_app.specs.Kept.{named_goals, list_in}
 use Rattle.rw_app.specs.Runs.{Run, IsRun}
 use Rattle.rw_app.specs.RunTexts.{run_text}
@@ -49,8 +50,8 @@ told document run = record { status = status_of_end run.end; text = run_text doc
 -- the answer is that to a request about a document, or about its first fault
 abbrev pub IsAnswerTo : Request → Result DocumentLists DocFault → AnswerText → Type 0
 IsAnswerTo request (Err fault) answer = answer ≡ refusal fault
-IsAnswerTo (matches name) (Ok document) answer = answer ≡ listed document (find (λ named. bytes_eq name named.name) (named_goals document))
-IsAnswerTo (run fuel seed) (Ok document) answer = (run : Run) × IsRun document fuel run × (answer ≡ told document run)
+IsAnswerTo (commands.matches name) (Ok document) answer = answer ≡ listed document (find (λ named. bytes_eq name named.name) (named_goals document))
+IsAnswerTo (commands.run fuel seed) (Ok document) answer = (run : Run) × IsRun document fuel run × (answer ≡ told document run)
 
 -- the answer is that to a request about the document that bytes are
 abbrev pub IsAnswer : Request → List ℕ → AnswerText → Type 0

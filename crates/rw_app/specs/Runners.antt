@@ -7,7 +7,7 @@ use Rattle.rw_schema.specs.RowLists.{RowLists}
 use Rattle.rw_table.specs.Tabled.{IsOver}
 use Rattle.rw_rule.specs.RuleLists.{RuleLists}
 use Rattle.rw_doc.specs.Models.{DocumentLists}
-use Rattle.rw_print.specs.declared.end.End.{End}
+use Rattle.rw_print.specs.declared.last.End.{End}
 use Rattle.rw_app.specs.declared.firing.Fired.{Fired}
 use Rattle.rw_app.specs.declared.runner.Ran.{Ran}
 use Rattle.rw_app.specs.declared.world.World.{World}
@@ -23,11 +23,11 @@ pub record IsWorld (document : DocumentLists) (world : World) : Type 0 where
 -- the rule's box, the first of the schedule, fires in the instance; this is the line of the firing, and this its state
 pub record IsFiring (document : DocumentLists) (rule : RuleLists) (before : RowLists) (fired : Fired) (firing : Firing) : Type 0 where
   pub fires : Fires (signature_of document.schema) firing
-  pub place : firing.place ≡ 0
-  pub rule : firing.rule ≡ rule
-  pub before : firing.before ≡ before
-  pub after : firing.after ≡ fired.world.table.rows
-  pub applied : is_some firing.applied ≡ fired.applied
+  pub at_place : firing.place ≡ 0
+  pub of_rule : firing.rule ≡ rule
+  pub from_rows : firing.before ≡ before
+  pub to_rows : firing.after ≡ fired.world.table.rows
+  pub applies : is_some firing.applied ≡ fired.applied
   pub line : fired.line.items ≡ firing_line document firing
   pub world : IsWorld document fired.world
 
@@ -39,13 +39,13 @@ at_first fuel rows = record { place = 0; fuel = fuel; rows = rows }
 pub record HasRun (document : DocumentLists) (fuel : ℕ) (rows : RowLists) (ran : Ran) (firings : List Firing) (last : Stand) : Type 0 where
   pub text : ran.text.items ≡ flat_map (firing_line document) firings
   pub leads : Leads (signature_of document.schema) (default_schedule document.rules) (at_first fuel rows) firings last ran.end
-  pub fuel : last.fuel ≡ ran.fuel
-  pub rows : last.rows ≡ ran.world.table.rows
+  pub fuel_left : last.fuel ≡ ran.fuel
+  pub last_rows : last.rows ≡ ran.world.table.rows
   pub world : IsWorld document ran.world
 
 -- the firings so far lead to a state from which each run goes on: this is what a run knows that has not ended
-pub record HasBegun (document : DocumentLists) (fuel left : ℕ) (rows now : RowLists) (text : List ℕ) (firings : List Firing) : Type 0 where
-  pub text : text ≡ flat_map (firing_line document) firings
+pub record HasBegun (document : DocumentLists) (fuel left : ℕ) (rows now : RowLists) (written : List ℕ) (firings : List Firing) : Type 0 where
+  pub text : written ≡ flat_map (firing_line document) firings
   pub leads : (more : List Firing) (last : Stand) (end : End)
       → Leads (signature_of document.schema) (default_schedule document.rules) (at_first left now) more last end
       → Leads (signature_of document.schema) (default_schedule document.rules) (at_first fuel rows) (firings ++ more) last end

@@ -82,7 +82,7 @@ fn list_matches(alloc: Global, name: &str, document: &Document) -> Result<Answer
 fn list_goal(alloc: Global, document: &Document, named: Named<'_>) -> Result<Answer, OutOfMemory>
     requires sound { IsSound (document_lists document.now) }
     requires goal { IsGoalOver (signature_of document.now.schema) (goal_of_parts named.goal.now) }
-    ensures { IfOk result (λ answer. text_of_answer answer ≡ listed (document_lists document.now) (Some (record { name = named.name.now; goal = goal_of_parts named.goal.now }))) }
+    ensures { IfOk result (λ answer. text_of_answer answer ≡ listed (document_lists document.now) (Some (record { name = named.entry.name.now; goal = goal_of_parts named.entry.goal.now }))) }
 {
     let tuples = fresh_list(alloc, &document.schema, named.goal, &document.table)?;
     let text = matches_line(alloc, named.name, &tuples)?;

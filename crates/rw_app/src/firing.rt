@@ -1,6 +1,6 @@
 //! One firing of a rule's box.
 
-ghost use Rattle.std.specs.Prelude.{◌≡◌, ◌<◌, IfOk, Some, None, length, get_or};
+ghost use Rattle.std.specs.Prelude.{◌≡◌, ◌∷◌, IfOk, List, Some, None};
 ghost use Rattle.rw_schema.specs.Presentation.{signature_of};
 ghost use Rattle.rw_rule.specs.RuleLists.{RuleLists};
 ghost use Rattle.rw_doc.specs.Models.{document_lists, IsSound};

@@ -1,6 +1,6 @@
 //! Which match of a rule is applied.
 
-ghost use Rattle.std.specs.Prelude.{◌≡◌, ◌×◌, IfOk, true, Some, None};
+ghost use Rattle.std.specs.Prelude.{◌≡◌, IfOk, true, Some, None};
 ghost use Rattle.rw_schema.specs.Presentation.{signature_of};
 ghost use Rattle.rw_table.specs.Tabled.{IsOver, instance_of_table};
 ghost use Rattle.rw_rule.specs.PlainRules.{is_plain};

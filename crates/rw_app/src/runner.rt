@@ -1,6 +1,6 @@
 //! The run of a document.
 
-ghost use Rattle.std.specs.Prelude.{◌≡◌, ◌×◌, ◌++◌, IfOk, map, length};
+ghost use Rattle.std.specs.Prelude.{◌≡◌, ◌++◌, ◌∷◌, ℕ, IfOk, List, Ok, map, length};
 ghost use Rattle.rw_rule.specs.RuleLists.{RuleLists};
 ghost use Rattle.rw_doc.specs.Models.{document_lists, IsSound};
 ghost use Rattle.rw_print.specs.Lines.{line, end_data};
@@ -13,6 +13,7 @@ ghost use Rattle.rw_app.specs.Runners.{HasRun, IsWorld};
 ghost use Rattle.rw_app.specs.Runs.{Firing, IsRun, Run, Stand};
 
 use crate::answer::Answer;
+use crate::counts::{lengths_of, sizes_of};
 use crate::firing::{Fired, fire};
 use crate::world::{World, load};
 use crate::Status;
@@ -100,7 +101,7 @@ fn finish(alloc: Global, ran: Ran) -> Result<Answer, OutOfMemory>
     }) }
 {
     let lists = lengths_of(alloc, ran.world.lists.as_slice())?;
-    let sizes = sizes_of(alloc, &ran.world.table)?;
+    let sizes = sizes_of(alloc, ran.world.table.rows())?;
     let line = end_line(alloc, ran.end, ran.fuel, &lists, &sizes)?;
     let mut text = ran.text;
     text.extend_from_slice(line.as_slice())?;

@@ -1,11 +1,11 @@
 -- What a document says, as contracts see it.
-use Rattle.std.specs.Prelude.{◌≡◌, true, List, map, ◌++◌}
+use Rattle.std.specs.Prelude.{◌≡◌, ◌≤◌, true, List, map, length}
 use Rattle.std.specs.List.{All}
 use Rattle.rw_schema.specs.Presentation.{Presentation, signature_of}
 use Rattle.rw_table.specs.Tabled.{Tabled, IsOver}
 use Rattle.rw_rule.specs.PlainRules.{is_plain}
 use Rattle.rw_rule.specs.RuleFaults.{IsGoalOver, IsRuleOver}
-use Rattle.rw_rule.specs.RuleLists.{GoalLists, RuleLists, WatchLists}
+use Rattle.rw_rule.specs.RuleLists.{RuleLists, WatchLists}
 use Rattle.rw_rule.specs.RuleParts.{lists_of_watch}
 use Rattle.rw_doc.specs.declared.document.Document.{Document}
 
@@ -23,13 +23,12 @@ document_lists document = record {
   watches = map lists_of_watch document.watches.items;
 }
 
--- the goals of a document: of the rules, and then of the watches
-abbrev pub goals_of : DocumentLists → List GoalLists
-goals_of document = map (λ (rule : RuleLists). rule.goal) document.rules ++ map (λ (watch : WatchLists). watch.goal) document.watches
-
--- the table is over the schema, and so is each rule and each watch; each rule is one whose steps are built so far
+-- the table is over the schema, and so is each rule and each watch; each rule is one whose steps are built so far; there
+-- are at most 256 rules and 64 watches
 pub record IsSound (document : DocumentLists) : Type 0 where
   pub table : IsOver document.schema document.table
   pub rules : All (IsRuleOver (signature_of document.schema)) document.rules
   pub plain : All (λ rule. is_plain rule ≡ true) document.rules
   pub watches : All (λ (watch : WatchLists). IsGoalOver (signature_of document.schema) watch.goal) document.watches
+  pub few_rules : length document.rules ≤ 256
+  pub few_watches : length document.watches ≤ 64
