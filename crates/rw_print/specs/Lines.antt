@@ -13,8 +13,8 @@ use Rattle.rw_schema.specs.SectionName.{name_of_section}
 use Rattle.rw_rule.specs.declared.refusal.Refusal.{Refusal}
 use Rattle.rw_rule.specs.declared.refusal.Refusal.TheVariants.{Dangling, TooLarge}
 use Rattle.rw_lists.specs.News.{NewsLists}
-use Rattle.rw_print.specs.declared.end.End.{End}
-use Rattle.rw_print.specs.declared.end.End.TheVariants.{Done, Failed, Spent}
+use Rattle.rw_print.specs.declared.last.End.{End}
+use Rattle.rw_print.specs.declared.last.End.TheVariants.{Done, Failed, Spent}
 
 -- the line of a value: its compact text, and a line feed
 abbrev pub line : Data → List ℕ
