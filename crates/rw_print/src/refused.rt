@@ -3,7 +3,6 @@
 ghost use Rattle.std.specs.Prelude.{◌≡◌, ◌<◌, IfOk, length, map};
 ghost use Rattle.std.specs.List.{All};
 ghost use Rattle.serde_json.specs.View.{view};
-ghost use Rattle.rw_rule.specs.declared.refusal.Refusal.TheVariants.{Dangling, TooLarge};
 ghost use Rattle.rw_print.specs.Lines.{name_of_arrow, name_of_object, refusal_data, refused_data, IsKnown};
 
 use crate::line::counts_of;
@@ -27,35 +26,18 @@ fn object_name(schema: &Schema, object: ObjectId) -> &str
     schema.object(object).as_str()
 }
 
-/// `["dangling",arrow,part]`
-fn dangling_value(
-    alloc: Global,
-    schema: &Schema,
-    arrow: ArrowId,
-    part: u32,
-) -> Result<Value, AllocError>
-    requires { arrow.0 < length schema.now.arrows }
-    ensures { IfOk result (λ value. view value ≡ refusal_data schema.now (Dangling arrow part)) }
-{
-    json!(in alloc; ["dangling", arrow_name(schema, arrow), part])
-}
-
-/// `["too_large",object]`
-fn too_large_value(alloc: Global, schema: &Schema, object: ObjectId) -> Result<Value, AllocError>
-    requires { object.0 < length schema.now.objects }
-    ensures { IfOk result (λ value. view value ≡ refusal_data schema.now (TooLarge object)) }
-{
-    json!(in alloc; ["too_large", object_name(schema, object)])
-}
-
-/// The obstruction, with the name of its arrow or its object.
+/// `["dangling",arrow,part]` or `["too_large",object]`, with the name of the arrow or the object.
 fn refusal_value(alloc: Global, schema: &Schema, refusal: &Refusal) -> Result<Value, AllocError>
     requires { IsKnown schema.now refusal.now }
     ensures { IfOk result (λ value. view value ≡ refusal_data schema.now refusal.now) }
 {
     match refusal {
-        Refusal::Dangling { arrow, part } => dangling_value(alloc, schema, *arrow, *part),
-        Refusal::TooLarge { object } => too_large_value(alloc, schema, *object),
+        Refusal::Dangling { arrow, part } => {
+            json!(in alloc; ["dangling", arrow_name(schema, *arrow), *part])
+        }
+        Refusal::TooLarge { object } => {
+            json!(in alloc; ["too_large", object_name(schema, *object)])
+        }
     }
 }
 
