@@ -13,3 +13,6 @@ pub use fault::fault_line;
 pub use last::{End, end_line};
 pub use matches::matches_line;
 pub use step::step_line;
+
+#[cfg(test)]
+mod tests;
