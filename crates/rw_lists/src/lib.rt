@@ -8,3 +8,6 @@ mod news;
 pub use compare::differences;
 pub use fresh::fresh_list;
 pub use news::{ListNews, ListsNews};
+
+#[cfg(test)]
+mod tests;

@@ -13,8 +13,8 @@ use Rattle.rw_schema.specs.SectionName.{name_of_section}
 use Rattle.rw_rule.specs.declared.refusal.Refusal.{Refusal}
 use Rattle.rw_rule.specs.declared.refusal.Refusal.TheVariants.{Dangling, TooLarge}
 use Rattle.rw_lists.specs.News.{NewsLists}
-use Rattle.rw_print.specs.declared.end.End.{End}
-use Rattle.rw_print.specs.declared.end.End.TheVariants.{Done, Failed, Spent}
+use Rattle.rw_print.specs.declared.last.End.{End}
+use Rattle.rw_print.specs.declared.last.End.TheVariants.{Done, Failed, Spent}
 
 -- the line of a value: its compact text, and a line feed
 abbrev pub line : Data → List ℕ
@@ -44,15 +44,15 @@ fault_data code section first second third =
 -- ---- the lines of a run
 
 abbrev pub name_of_object : Presentation → ObjectId → List ℕ
-name_of_object schema object = list_at schema.objects object.0
+name_of_object schema id = list_at schema.objects id.0
 
 abbrev pub name_of_arrow : Presentation → ArrowId → List ℕ
-name_of_arrow schema arrow = list_at (map arrow_name schema.arrows) arrow.0
+name_of_arrow schema id = list_at (map arrow_name schema.arrows) id.0
 
 -- ["dangling",arrow,part], ["too_large",object]
 abbrev pub refusal_data : Presentation → Refusal → Data
 refusal_data schema (Dangling arrow part) = list_data (string (codes "dangling") ∷ string (name_of_arrow schema arrow) ∷ count_data part ∷ [])
-refusal_data schema (TooLarge object) = list_data (string (codes "too_large") ∷ string (name_of_object schema object) ∷ [])
+refusal_data schema (TooLarge id) = list_data (string (codes "too_large") ∷ string (name_of_object schema id) ∷ [])
 
 -- [tuple,obstruction]
 abbrev pub refused_data : Presentation → List ℕ × Refusal → Data
@@ -93,4 +93,4 @@ end_data end fuel lists sizes =
 -- the obstruction names an arrow or an object of the schema
 abbrev pub IsKnown : Presentation → Refusal → Type 0
 IsKnown schema (Dangling arrow part) = arrow.0 < length schema.arrows
-IsKnown schema (TooLarge object) = object.0 < length schema.objects
+IsKnown schema (TooLarge id) = id.0 < length schema.objects

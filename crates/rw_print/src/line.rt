@@ -29,3 +29,14 @@ pub(crate) fn counts_of(alloc: Global, counts: &[u32]) -> Result<Vec<Value>, All
     }
     Ok(values)
 }
+
+/// The same of longer numbers.
+pub(crate) fn long_counts_of(alloc: Global, counts: &[u64]) -> Result<Vec<Value>, AllocError>
+    ensures { IfOk result (λ values. map view values.items ≡ map count_data counts.now) }
+{
+    let mut values = Vec::new(alloc);
+    for count in counts {
+        values.push(Value::from(*count))?;
+    }
+    Ok(values)
+}

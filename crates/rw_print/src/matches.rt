@@ -25,7 +25,8 @@ fn matches_value(alloc: Global, name: &Text, tuples: &[Tuple]) -> Result<Value, 
     json!(in alloc; {"matches": matches, "name": name.as_str()})
 }
 
-fn tuple_values(alloc: Global, tuples: &[Tuple]) -> Result<Vec<Value>, AllocError>
+/// The tuples as a list of values.
+pub(crate) fn tuple_values(alloc: Global, tuples: &[Tuple]) -> Result<Vec<Value>, AllocError>
     ensures { IfOk result (λ values. map view values.items ≡ map tuple_data tuples.now) }
 {
     let mut values = Vec::new(alloc);

@@ -1,0 +1,5 @@
+use Rattle.rw_print.proofs.Plain.{no_float_in_end}
+use Rattle.rw_print.proofs.last.end_line.Goals as goal
+
+pub line_of-requires : goal.line_of-requires
+line_of-requires c = rw c.in_ok-value.ensures (no_float_in_end c.args.end c.args.fuel c.as_slice.result.now c.as_slice-2.result.now)

@@ -1,0 +1,73 @@
+//! The tuples at which a rule is not applied, with the obstructions, as values.
+
+ghost use Rattle.std.specs.Prelude.{◌≡◌, ◌<◌, IfOk, length, map};
+ghost use Rattle.std.specs.List.{All};
+ghost use Rattle.serde_json.specs.View.{view};
+ghost use Rattle.rw_print.specs.Lines.{name_of_arrow, name_of_object, refusal_data, refused_data, IsKnown};
+
+use crate::line::counts_of;
+use rw_pattern::Tuple;
+use rw_rule::Refusal;
+use rw_schema::{ArrowId, ObjectId, Schema};
+use serde_json::{Value, json};
+use std::alloc::{AllocError, Global};
+
+fn arrow_name(schema: &Schema, arrow: ArrowId) -> &str
+    requires { arrow.0 < length schema.now.arrows }
+    ensures { result.now ≡ name_of_arrow schema.now arrow }
+{
+    schema.arrow(arrow).name.as_str()
+}
+
+fn object_name(schema: &Schema, object: ObjectId) -> &str
+    requires { object.0 < length schema.now.objects }
+    ensures { result.now ≡ name_of_object schema.now object }
+{
+    schema.object(object).as_str()
+}
+
+/// `["dangling",arrow,part]` or `["too_large",object]`, with the name of the arrow or the object.
+fn refusal_value(alloc: Global, schema: &Schema, refusal: &Refusal) -> Result<Value, AllocError>
+    requires { IsKnown schema.now refusal.now }
+    ensures { IfOk result (λ value. view value ≡ refusal_data schema.now refusal.now) }
+{
+    match refusal {
+        Refusal::Dangling { arrow, part } => {
+            json!(in alloc; ["dangling", arrow_name(schema, *arrow), *part])
+        }
+        Refusal::TooLarge { object } => {
+            json!(in alloc; ["too_large", object_name(schema, *object)])
+        }
+    }
+}
+
+/// `[tuple,obstruction]`
+fn refused_value(
+    alloc: Global,
+    schema: &Schema,
+    tuple: &Tuple,
+    refusal: &Refusal,
+) -> Result<Value, AllocError>
+    requires { IsKnown schema.now refusal.now }
+    ensures { IfOk result (λ value. view value ≡ refused_data schema.now (tuple.now, refusal.now)) }
+{
+    let names = Value::Array(counts_of(alloc, tuple.names())?);
+    let obstruction = refusal_value(alloc, schema, refusal)?;
+    json!(in alloc; [names, obstruction])
+}
+
+/// The tuples with their obstructions, as a list of values.
+pub(crate) fn refused_values(
+    alloc: Global,
+    schema: &Schema,
+    refused: &[(Tuple, Refusal)],
+) -> Result<Vec<Value>, AllocError>
+    requires { All (λ entry. IsKnown schema.now entry.1) refused.now }
+    ensures { IfOk result (λ values. map view values.items ≡ map (refused_data schema.now) refused.now) }
+{
+    let mut values = Vec::new(alloc);
+    for (tuple, refusal) in refused {
+        values.push(refused_value(alloc, schema, tuple, refusal)?)?;
+    }
+    Ok(values)
+}
