@@ -1,5 +1,5 @@
 -- The place of a name among names, and the entry beside it.
-use Rattle.std.proofs.Common.{◌≡◌, ◌==◌, ◌∙◌, ℕ, suc, ◌+◌, ◌<◌, Bool, true, false, cond, if◌then◌else◌, nat_lt, List, [], ◌∷◌, length, get_or, position, Some, None, refl, sym, ap, inl, inr, arith, Result, Ok, Err}
+use Rattle.std.proofs.Common.{◌≡◌, ◌==◌, ◌∙◌, ℕ, suc, ◌+◌, ◌<◌, Bool, true, false, cond, if◌then◌else◌, nat_lt, List, [], ◌∷◌, length, get_or, slice_get, position, Some, None, refl, sym, ap, inl, inr, arith, Result, Ok, Err}
 use Rattle.std.specs.List.{list_any, position_or_len}
 use Rattle.std.specs.Option.{is_some}
 use Rattle.std.specs.List.Sorted.{IsBinarySearchResult}
@@ -8,6 +8,7 @@ use Rattle.std.specs.Result.{result_ok}
 use Rattle.std.proofs.lemmas.Bool.{eqb-true, eqb-false, eq-eqb, ne_eqb, cases_Bool, cases_lt, lt-ltb, le-ltb}
 use Rattle.std.proofs.lemmas.Bool.Decides.{nat_tests}
 use Rattle.std.proofs.lemmas.List.Sorted.{searched}
+use Rattle.std.proofs.lemmas.Option.{slice_get_within, slice_get-get_or, get_or_from_slice_get}
 use Rattle.std.proofs.lemmas.List.Sums.{position_or_len_is}
 use Rattle.std.proofs.lemmas.List.Quantifiers.{position-Some}
 use Rattle.std.proofs.lemmas.List.Folds.{list_any_at}
@@ -52,14 +53,21 @@ place_below test (x ∷ xs) =
 pub place_found : {X : Type 0} (test : X → Bool) (xs : List X) → is_some (position test xs) ≡ list_any test xs
 place_found test xs = is_some_cond (nat_lt (position_or_len test xs) (length xs)) (position_or_len test xs) ∙ place_below test xs
 
+-- where a name stands among ascending names is its place
+pub place_stands : (names : List ℕ) (name k : ℕ) → ascends names ≡ true → slice_get names k ≡ Some name → Some k ≡ position (λ other. other == name) names
+place_stands names name k up stands =
+    let within : k < length names = slice_get_within names k name stands in
+    let here : get_or names k 0 ≡ name = get_or_from_slice_get names k name 0 stands in
+    sym (place_is (λ other. other == name) names k 0 within
+    (λ j below. ne_eqb (get_or names j 0) name (λ same. let less = ascends_apart names j k up below within in absurd (omega arith)))
+    (eq-eqb (get_or names k 0) name here))
+
 -- what a binary search of ascending names finds is the place of the name
 pub place_searched : (names : List ℕ) (name : ℕ) (answer : Result ℕ ℕ) → ascends names ≡ true
     → IsBinarySearchResult (λ other. nat_cmp other name) names answer → result_ok answer ≡ position (λ other. other == name) names
 place_searched names name (Ok k) up is =
     let found = searched names name (Ok k) is (ascends_far names up) in
-    sym (place_is (λ other. other == name) names k 0 found.0
-    (λ j below. ne_eqb (get_or names j 0) name (λ same. let less = ascends_apart names j k up below found.0 in absurd (omega arith)))
-    (eq-eqb (get_or names k 0) name found.1))
+    place_stands names name k up (slice_get-get_or names k 0 found.0 ∙ ap (λ (n : ℕ). Some n) found.1)
 place_searched names name (Err k) up is =
     let missed = searched names name (Err k) is (ascends_far names up) in
     sym (place_none (λ other. other == name) names 0
