@@ -34,7 +34,7 @@ pub(crate) fn rows_after(
     ensures { IfOk result (λ rows. rows ≡ rows_after_step (signature_of schema.now) rule.now tuple.now table.now.rows) }
 {
     let names = all_names_after(alloc, schema, rule, table, tuple)?;
-    let next = all_next_after(alloc, schema, rule, table)?;
+    let next = all_next_after(alloc, schema, rule, table.rows())?;
     let arrows = all_rows_after(alloc, schema, rule, table, tuple, names.as_slice())?;
     Ok(Rows::from_lists(names, arrows, next))
 }
@@ -67,16 +67,16 @@ fn all_next_after(
     alloc: Global,
     schema: &Schema,
     rule: &Rule,
-    table: &Table,
+    rows: &Rows,
 ) -> Result<Vec<u32>, OutOfMemory>
-    requires table { IsOver schema.now table.now }
     requires rule { IsRuleOver (signature_of schema.now) rule.now }
-    requires room { too_large rule.now table.now.rows.next ≡ None }
-    ensures { IfOk result (λ next. next.items ≡ map (next_after_step rule.now table.now.rows.next) (range_with_len 0 (length schema.now.objects))) }
+    requires next { length rows.now.next ≡ length schema.now.objects }
+    requires room { too_large rule.now rows.now.next ≡ None }
+    ensures { IfOk result (λ next. next.items ≡ map (next_after_step rule.now rows.now.next) (range_with_len 0 (length schema.now.objects))) }
 {
     let mut next = Vec::new(alloc);
     for number in 0..schema.objects() {
-        next.push(next_after(rule, table, ObjectId(number as u16)))?;
+        next.push(next_after(rule, rows, ObjectId(number as u16)))?;
     }
     Ok(next)
 }

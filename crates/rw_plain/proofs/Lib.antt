@@ -1,0 +1,6 @@
+pub mod Firsts
+pub mod PartNames
+pub mod Ranges
+pub mod Room
+pub mod RuleParts
+pub mod Tables
