@@ -1,3 +1,4 @@
+pub mod ArrowValues
 pub mod Firsts
 pub mod PartNames
 pub mod Ranges

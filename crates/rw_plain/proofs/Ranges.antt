@@ -1,7 +1,7 @@
 -- The numbers from one on, with one number more.
-use Rattle.std.proofs.Common.{◌≡◌, ℕ, zero, suc, ◌+◌, ◌<◌, Bool, true, false, cond, filter, length, List, [], ◌∷◌, ◌++◌, refl, ap, ◌∙◌, add-one, add-zero, zero-add, arith, length-append}
+use Rattle.std.proofs.Common.{◌≡◌, ℕ, zero, suc, ◌+◌, ◌<◌, Bool, true, false, cond, All, filter, length, List, [], ◌∷◌, ◌++◌, refl, ap, ◌∙◌, add-one, add-zero, zero-add, arith, length-append}
 use Rattle.std.specs.List.{list_any, range_with_len}
-use Rattle.std.proofs.lemmas.List.Elements.{filter-append}
+use Rattle.std.proofs.lemmas.List.Elements.{All-from_get_or, filter-append}
 use Rattle.std.proofs.lemmas.List.Folds.{list_any-append, list_any_at}
 use Rattle.std.proofs.lemmas.List.FromFn.{length-range_with_len, get_or-range_with_len}
 
@@ -40,3 +40,10 @@ count_more test n passes here =
     one : (passes : Bool) (n : ℕ) → length (cond passes (n ∷ []) []) ≡ cond passes 1 0
     one true n = refl
     one false n = refl
+
+-- each of the numbers below a size is less
+pub range_below : (size : ℕ) → All (λ n. n < size) (range_with_len 0 size)
+range_below size =
+    All-from_get_or (λ n. n < size) (range_with_len 0 size) 0 (λ place within.
+        let there : place < size = rw (length-range_with_len 0 size) at within in
+        rw (get_or-range_with_len 0 size place 0 there, zero-add place) there)

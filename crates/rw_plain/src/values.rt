@@ -1,7 +1,8 @@
 //! The values of arrows after the step.
 
-ghost use Rattle.std.specs.Prelude.{◌≡◌, ◌==◌, ◌<◌, IfSome, None, length, position, sum};
+ghost use Rattle.std.specs.Prelude.{◌≡◌, ◌==◌, ◌<◌, IfSome, None, length, position, slice_index, sum};
 ghost use Rattle.rw_schema.specs.Presentation.{ends_of_arrow};
+ghost use Rattle.rw_schema.specs.RowLists.{list_at};
 ghost use Rattle.rw_pattern.specs.PatternLists.{size_of};
 ghost use Rattle.rw_table.specs.Tabled.{instance_of_table};
 ghost use Rattle.rw_plain.specs.Obstructions.{too_large};
@@ -34,9 +35,36 @@ pub(crate) fn value_after(
 {
     let next = table.rows().next(ends.source);
     if name < next {
-        return table.value(arrow, name).unwrap_or(0);
+        value_before(table, arrow, name)
+    } else {
+        let part = new_parts[(name - next) as usize];
+        value_of_new(rule, table, tuple, arrow, ends, part)
     }
-    let part = new_parts[(name - next) as usize];
+}
+
+/// The value of an arrow before the step, or 0 where its source has no such name.
+fn value_before(table: &Table, arrow: ArrowId, name: u32) -> u32
+    requires { arrow.0 < length table.now.signature.arrows }
+    ensures { result ≡ (instance_of_table table.now).value arrow.0 name }
+{
+    table.value(arrow, name).unwrap_or(0)
+}
+
+/// The value of an arrow after the step at the name of a new part.
+fn value_of_new(
+    rule: &Rule,
+    table: &Table,
+    tuple: &Tuple,
+    arrow: ArrowId,
+    ends: &ArrowDef,
+    part: u32,
+) -> u32
+    requires arrow { HasArrow table.now.signature rule.now arrow.0 (ends_of_arrow ends.now) }
+    requires tuple { length tuple.now ≡ sum rule.now.goal.left.sizes }
+    requires room { too_large rule.now table.now.rows.next ≡ None }
+    requires part { part < size_of rule.now.right ends.now.source.0 }
+    ensures { result ≡ name_of_right_part rule.now tuple.now table.now.rows.next ends.now.target.0 (slice_index (list_at rule.now.right.rows arrow.0) part) }
+{
     let image = rule.right().row(arrow)[part as usize];
     name_of_right(rule, table.rows(), tuple, ends.target, image)
 }
