@@ -1,5 +1,5 @@
 -- The values of arrows before the step and after it.
-use Rattle.std.proofs.Common.{◌≡◌, ◌==◌, ℕ, ◌-◌, ◌<◌, ◌≤◌, Bool, true, false, cond, inl, inr, if◌then◌else◌, nat_lt, not, filter, Option, Some, None, All, List, length, map, slice_get, slice_index, refl, sym, ap, ◌∙◌, option_map}
+use Rattle.std.proofs.Common.{◌≡◌, ◌==◌, ℕ, ◌+◌, ◌-◌, ◌<◌, ◌≤◌, Bool, true, false, cond, inl, inr, if◌then◌else◌, nat_lt, not, filter, Option, Some, None, All, List, length, map, slice_get, slice_index, refl, sym, ap, ◌∙◌, zero-add, option_map}
 use Rattle.std.specs.List.{list_any, range_with_len}
 use Rattle.std.specs.Option.{unwrap_or}
 use Rattle.std.proofs.lemmas.Bool.{cases_Bool, both_ways, cond-true, cond-false, lt-ltb, le-ltb}
@@ -38,8 +38,10 @@ value_or_zero table arrow name =
 pub new_part_within : (rule : RuleLists) (object place : ℕ) → place < length (new_parts rule object) → slice_index (new_parts rule object) place < size_of rule.right object
 new_part_within rule object place within =
     let size : ℕ = size_of rule.right object in
-    All-get_or (λ part. part < size) (new_parts rule object) place 0 within
-    (All-filter (λ part. not (is_image rule.r object part)) (λ part. part < size) (range_with_len 0 size) (range_below size))
+    let below : slice_index (new_parts rule object) place < 0 + size =
+    All-get_or (λ part. part < 0 + size) (new_parts rule object) place 0 within
+    (All-filter (λ part. not (is_image rule.r object part)) (λ part. part < 0 + size) (range_with_len 0 size) (range_below 0 size)) in
+    rw zero-add at below
 
 -- at an earlier name the value stays
 pub value_at_earlier : (C : Signature) (rule : RuleLists) (tuple : List ℕ) (X : Instance) (next : List ℕ) (arrow : ℕ) (ends : ArrowEnds) (name : ℕ)

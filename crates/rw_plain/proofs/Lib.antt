@@ -4,4 +4,5 @@ pub mod PartNames
 pub mod Ranges
 pub mod Room
 pub mod RuleParts
+pub mod StepNames
 pub mod Tables

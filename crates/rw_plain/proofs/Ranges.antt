@@ -1,9 +1,9 @@
 -- The numbers from one on, with one number more.
-use Rattle.std.proofs.Common.{◌≡◌, ℕ, zero, suc, ◌+◌, ◌<◌, Bool, true, false, cond, All, filter, length, List, [], ◌∷◌, ◌++◌, refl, ap, ◌∙◌, add-one, add-zero, zero-add, arith, length-append}
+use Rattle.std.proofs.Common.{◌≡◌, ℕ, zero, suc, ◌+◌, ◌<◌, Bool, true, false, cond, All, filter, map, length, List, [], ◌∷◌, ◌++◌, refl, ap, sym, ◌∙◌, add-one, add-zero, zero-add, arith, length-append}
 use Rattle.std.specs.List.{list_any, range_with_len}
 use Rattle.std.proofs.lemmas.List.Elements.{All-from_get_or, filter-append}
 use Rattle.std.proofs.lemmas.List.Folds.{list_any-append, list_any_at}
-use Rattle.std.proofs.lemmas.List.FromFn.{length-range_with_len, get_or-range_with_len}
+use Rattle.std.proofs.lemmas.List.FromFn.{length-range_with_len, get_or-range_with_len, map-range_with_len_more}
 
 -- one number more stands behind the others
 pub range_more : (first n : ℕ) → range_with_len first (n + 1) ≡ range_with_len first n ++ (first + n) ∷ []
@@ -41,9 +41,15 @@ count_more test n passes here =
     one true n = refl
     one false n = refl
 
--- each of the numbers below a size is less
-pub range_below : (size : ℕ) → All (λ n. n < size) (range_with_len 0 size)
-range_below size =
-    All-from_get_or (λ n. n < size) (range_with_len 0 size) 0 (λ place within.
-        let there : place < size = rw (length-range_with_len 0 size) at within in
-        rw (get_or-range_with_len 0 size place 0 there, zero-add place) there)
+-- each of the numbers is below the one after the last
+pub range_below : (first count : ℕ) → All (λ n. n < first + count) (range_with_len first count)
+range_below first count =
+    All-from_get_or (λ n. n < first + count) (range_with_len first count) 0 (λ place within.
+        let there : place < count = rw (length-range_with_len first count) at within in
+        rw (get_or-range_with_len first count place 0 there) (omega arith))
+
+-- a map over the numbers below n, and over n
+pub map_more : {X : Type 0} (f : ℕ → X) (n : ℕ) (xs : List X) (x : X) → xs ≡ map f (range_with_len 0 n) → x ≡ f n → xs ++ x ∷ [] ≡ map f (range_with_len 0 (n + 1))
+map_more f n xs x are is =
+    ap (λ xs. xs ++ x ∷ []) are ∙ ap (λ x. map f (range_with_len 0 n) ++ x ∷ []) is
+    ∙ sym (map-range_with_len_more f 0 n n (zero-add n))

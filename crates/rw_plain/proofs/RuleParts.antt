@@ -1,9 +1,11 @@
 -- What a rule over a signature has of its objects and arrows.
-use Rattle.std.proofs.Common.{◌≡◌, ℕ, ◌<◌, Bool, true, is_none, Option, Some, None, List, length, slice_get, slice_index, sym, refl, ◌∙◌, arith}
+use Rattle.std.proofs.Common.{◌≡◌, ℕ, ◌<◌, Bool, true, is_none, Option, Some, None, List, length, slice_get, slice_index, map, get_or, sym, ap, refl, ◌∙◌, arith}
 use Rattle.std.proofs.lemmas.Bool.{and_parts}
 use Rattle.std.proofs.lemmas.Option.{slice_get-get_or, slice_get_within}
+use Rattle.rw_schema.specs.declared.parts.ArrowDef.{ArrowDef}
 use Rattle.rw_schema.specs.declared.signature.ArrowEnds.{ArrowEnds}
 use Rattle.rw_schema.specs.First.{or_else, fault_unless}
+use Rattle.rw_schema.specs.Presentation.{ends_of_arrow}
 use Rattle.rw_schema.specs.RowLists.{list_at}
 use Rattle.rw_schema.specs.Signature.{Signature, IsCategory}
 use Rattle.rw_schema.proofs.Firsts.{or_else_none, passed_unless}
@@ -11,7 +13,7 @@ use Rattle.rw_pattern.specs.MapFaults.{image_of, map_fault}
 use Rattle.rw_pattern.specs.PatternLists.{PatternLists, size_of}
 use Rattle.rw_pattern.proofs.Maps.{IsMap, is_map, lists_long, images_long}
 use Rattle.rw_pattern.proofs.Places.{parts_within}
-use Rattle.rw_pattern.proofs.Shapes.{IsPattern, is_pattern, row_long, image_within}
+use Rattle.rw_pattern.proofs.Shapes.{IsPattern, is_pattern, row_long, image_within, ends_at}
 use Rattle.rw_rule.specs.declared.fault.RuleFault.TheVariants.{NotHom, NotInjective}
 use Rattle.rw_rule.specs.RuleFaults.{IsRuleOver, are_maps, is_injective, rule_fault}
 use Rattle.rw_rule.specs.RuleLists.{RuleLists}
@@ -81,3 +83,10 @@ arrow_known C rule arrow ends category is there =
           let image_is = slice_get-get_or row part 0 (rw long below) in
           image_within C rule.right arrow ends part (slice_index row part) right there image_is;
     }
+
+-- a rule over a schema has each arrow in the list of its arrows
+pub listed_arrow_known : (C : Signature) (rule : RuleLists) (listed arrows : List ArrowDef) (number : ℕ) (arrow : ArrowDef) → IsCategory C → IsRuleOver C rule
+    → listed ≡ arrows → map ends_of_arrow arrows ≡ C.arrows → number < length listed → arrow ≡ get_or listed number arrow → HasArrow C rule number (ends_of_arrow arrow)
+listed_arrow_known C rule listed arrows number arrow category is same all within here =
+    arrow_known C rule number (ends_of_arrow arrow) category is
+    (ap (λ (ends : List ArrowEnds). slice_get ends number) (sym all) ∙ ends_at listed arrows number arrow same within here)

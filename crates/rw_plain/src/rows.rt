@@ -1,9 +1,11 @@
 //! The lists after the step.
 
-ghost use Rattle.std.specs.Prelude.{◌≡◌, IfOk, None, length, map, sum};
+ghost use Rattle.std.specs.Prelude.{◌≡◌, ◌≤◌, IfOk, None, length, map, sum};
 ghost use Rattle.std.specs.List.{range_with_len};
 ghost use Rattle.rw_schema.specs.First.{map_in};
 ghost use Rattle.rw_schema.specs.Presentation.{signature_of, ends_of_arrow};
+ghost use Rattle.rw_schema.specs.Signature.{IsCategory};
+ghost use Rattle.rw_table.specs.TableFaults.{table_fault};
 ghost use Rattle.rw_table.specs.Tabled.{IsOver, instance_of_table};
 ghost use Rattle.rw_rule.specs.RuleFaults.{IsRuleOver};
 ghost use Rattle.rw_plain.specs.Obstructions.{too_large};
@@ -33,10 +35,11 @@ pub(crate) fn rows_after(
     requires room { too_large rule.now table.now.rows.next ≡ None }
     ensures { IfOk result (λ rows. rows ≡ rows_after_step (signature_of schema.now) rule.now tuple.now table.now.rows) }
 {
-    let names = all_names_after(alloc, schema, rule, table, tuple)?;
     let next = all_next_after(alloc, schema, rule, table.rows())?;
-    let arrows = all_rows_after(alloc, schema, rule, table, tuple, names.as_slice())?;
-    Ok(Rows::from_lists(names, arrows, next))
+    let names = all_names_after(alloc, schema, rule, table, tuple)?;
+    let arrows = schema.arrow_list();
+    let rows = all_rows_after(alloc, arrows, rule, table, tuple, names.as_slice())?;
+    Ok(Rows::from_lists(names, rows, next))
 }
 
 /// Of each object the names after the step.
@@ -50,6 +53,7 @@ fn all_names_after(
     requires table { IsOver schema.now table.now }
     requires rule { IsRuleOver (signature_of schema.now) rule.now }
     requires tuple { length tuple.now ≡ sum rule.now.goal.left.sizes }
+    requires sound { table_fault table.now.signature table.now.rows ≡ None }
     requires room { too_large rule.now table.now.rows.next ≡ None }
     ensures { IfOk result (λ names. map (λ list. list.items) names.items
         ≡ map (names_after_step rule.now tuple.now (instance_of_table table.now) table.now.rows.next) (range_with_len 0 (length schema.now.objects))) }
@@ -84,24 +88,27 @@ fn all_next_after(
 /// Of each arrow the row after the step. Of each object the names after the step are given.
 fn all_rows_after(
     alloc: Global,
-    schema: &Schema,
+    arrows: &[ArrowDef],
     rule: &Rule,
     table: &Table,
     tuple: &Tuple,
     names: &[Vec<u32>],
 ) -> Result<Vec<Vec<u32>>, OutOfMemory>
-    requires table { IsOver schema.now table.now }
-    requires rule { IsRuleOver (signature_of schema.now) rule.now }
+    requires few { length arrows.now ≤ 256 }
+    requires arrows { map ends_of_arrow arrows.now ≡ table.now.signature.arrows }
+    requires category { IsCategory table.now.signature }
+    requires rule { IsRuleOver table.now.signature rule.now }
     requires tuple { length tuple.now ≡ sum rule.now.goal.left.sizes }
+    requires sound { table_fault table.now.signature table.now.rows ≡ None }
     requires room { too_large rule.now table.now.rows.next ≡ None }
     requires names { map (λ list. list.items) names.now
-        ≡ map (names_after_step rule.now tuple.now (instance_of_table table.now) table.now.rows.next) (range_with_len 0 (length schema.now.objects)) }
+        ≡ map (names_after_step rule.now tuple.now (instance_of_table table.now) table.now.rows.next) (range_with_len 0 table.now.signature.objects) }
     ensures { IfOk result (λ rows. map (λ list. list.items) rows.items
-        ≡ map_in (λ arrow ends. map (value_after_step (signature_of schema.now) rule.now tuple.now (instance_of_table table.now) table.now.rows.next arrow)
-        (names_after_step rule.now tuple.now (instance_of_table table.now) table.now.rows.next ends.source.0)) 0 (map ends_of_arrow schema.now.arrows)) }
+        ≡ map_in (λ arrow ends. map (value_after_step table.now.signature rule.now tuple.now (instance_of_table table.now) table.now.rows.next arrow)
+        (names_after_step rule.now tuple.now (instance_of_table table.now) table.now.rows.next ends.source.0)) 0 (map ends_of_arrow arrows.now)) }
 {
     let mut rows = Vec::new(alloc);
-    for (number, ends) in schema.arrow_list().iter().enumerate() {
+    for (number, ends) in arrows.iter().enumerate() {
         let arrow = ArrowId(number as u16);
         let names = names[ends.source.0 as usize].as_slice();
         rows.push(row_after(alloc, rule, table, tuple, arrow, ends, names)?)?;
@@ -121,6 +128,7 @@ fn row_after(
 ) -> Result<Vec<u32>, OutOfMemory>
     requires arrow { HasArrow table.now.signature rule.now arrow.0 (ends_of_arrow ends.now) }
     requires tuple { length tuple.now ≡ sum rule.now.goal.left.sizes }
+    requires sound { table_fault table.now.signature table.now.rows ≡ None }
     requires room { too_large rule.now table.now.rows.next ≡ None }
     requires names { names.now ≡ names_after_step rule.now tuple.now (instance_of_table table.now) table.now.rows.next ends.now.source.0 }
     ensures { IfOk result (λ row. row.items ≡ map (value_after_step table.now.signature rule.now tuple.now (instance_of_table table.now) table.now.rows.next arrow.0) names.now) }
