@@ -1,9 +1,12 @@
 -- The numbers from one on, with one number more.
-use Rattle.std.proofs.Common.{◌≡◌, ℕ, zero, suc, ◌+◌, ◌<◌, Bool, true, false, cond, All, filter, map, length, List, [], ◌∷◌, ◌++◌, refl, ap, sym, ◌∙◌, add-one, add-zero, zero-add, arith, length-append}
+use Rattle.std.proofs.Common.{◌≡◌, ℕ, zero, suc, ◌+◌, ◌<◌, Bool, true, false, cond, All, filter, map, length, get_or, List, [], ◌∷◌, ◌++◌, refl, ap, sym, ◌∙◌, add-one, add-zero, zero-add, arith, length-append}
 use Rattle.std.specs.List.{list_any, range_with_len}
+use Rattle.std.proofs.lemmas.List.{length-map}
 use Rattle.std.proofs.lemmas.List.Elements.{All-from_get_or, filter-append}
 use Rattle.std.proofs.lemmas.List.Folds.{list_any-append, list_any_at}
-use Rattle.std.proofs.lemmas.List.FromFn.{length-range_with_len, get_or-range_with_len, map-range_with_len_more}
+use Rattle.std.proofs.lemmas.List.FromFn.{length-range_with_len, get_or-range_with_len, length-map-range_with_len, get_or-map-range_with_len, map-range_with_len_more}
+use Rattle.rw_schema.specs.RowLists.{list_at}
+use Rattle.rw_schema.proofs.Lists.{list_at_map}
 
 -- one number more stands behind the others
 pub range_more : (first n : ℕ) → range_with_len first (n + 1) ≡ range_with_len first n ++ (first + n) ∷ []
@@ -53,3 +56,15 @@ pub map_more : {X : Type 0} (f : ℕ → X) (n : ℕ) (xs : List X) (x : X) → 
 map_more f n xs x are is =
     ap (λ xs. xs ++ x ∷ []) are ∙ ap (λ x. map f (range_with_len 0 n) ++ x ∷ []) is
     ∙ sym (map-range_with_len_more f 0 n n (zero-add n))
+
+-- lists that are given by a function of the numbers below n are n
+pub mapped_long : {V X : Type 0} (items : V → X) (values : List V) (f : ℕ → X) (n : ℕ) → map items values ≡ map f (range_with_len 0 n) → length values ≡ n
+mapped_long items values f n same = sym (length-map values items) ∙ ap length same ∙ length-map-range_with_len f 0 n
+
+-- the list at a number is that of the function
+pub mapped_at : {V : Type 0} (items : V → List ℕ) (values : List V) (f : ℕ → List ℕ) (n i : ℕ) (value : V)
+    → map items values ≡ map f (range_with_len 0 n) → i < n → value ≡ get_or values i value → items value ≡ f i
+mapped_at items values f n i value same within is =
+    let there : i < length values = omega (arith, mapped_long items values f n same) in
+    sym (list_at_map items values i value there ∙ ap items (sym is)) ∙ ap (λ lists. list_at lists i) same
+    ∙ get_or-map-range_with_len f 0 n i i [] within (zero-add i)
