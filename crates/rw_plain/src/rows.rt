@@ -1,14 +1,16 @@
 //! The lists after the step.
 
-ghost use Rattle.std.specs.Prelude.{◌≡◌, ◌≤◌, IfOk, None, length, map, sum};
+ghost use Rattle.std.specs.Prelude.{◌≡◌, ◌≤◌, IfOk, true, None, Contains, length, map, sum};
 ghost use Rattle.std.specs.List.{range_with_len};
 ghost use Rattle.rw_schema.specs.First.{map_in};
 ghost use Rattle.rw_schema.specs.Presentation.{signature_of, ends_of_arrow};
 ghost use Rattle.rw_schema.specs.Signature.{IsCategory};
+ghost use Rattle.rw_pattern.specs.Matches.{matches};
 ghost use Rattle.rw_table.specs.TableFaults.{table_fault};
 ghost use Rattle.rw_table.specs.Tabled.{IsOver, instance_of_table};
+ghost use Rattle.rw_rule.specs.PlainRules.{is_plain};
 ghost use Rattle.rw_rule.specs.RuleFaults.{IsRuleOver};
-ghost use Rattle.rw_plain.specs.Obstructions.{too_large};
+ghost use Rattle.rw_plain.specs.Obstructions.{dangling, too_large};
 ghost use Rattle.rw_plain.specs.PlainStep.{names_after as names_after_step, next_after as next_after_step, value_after as value_after_step, rows_after as rows_after_step};
 ghost use Rattle.rw_plain.specs.RuleParts.{HasArrow};
 
@@ -21,7 +23,7 @@ use rw_schema::{ArrowDef, ArrowId, ObjectId, OutOfMemory, Rows, Schema};
 use rw_table::Table;
 use std::alloc::Global;
 
-/// The lists of the instance after the step.
+/// The lists of the instance after the step. No arrow dangles, so they are an instance.
 pub(crate) fn rows_after(
     alloc: Global,
     schema: &Schema,
@@ -31,9 +33,12 @@ pub(crate) fn rows_after(
 ) -> Result<Rows, OutOfMemory>
     requires table { IsOver schema.now table.now }
     requires rule { IsRuleOver (signature_of schema.now) rule.now }
-    requires tuple { length tuple.now ≡ sum rule.now.goal.left.sizes }
+    requires plain { is_plain rule.now ≡ true }
+    requires tuple { Contains (matches (signature_of schema.now) rule.now.goal.left rule.now.goal.monic (instance_of_table table.now)) tuple.now }
+    requires closed { dangling (signature_of schema.now) rule.now tuple.now (instance_of_table table.now) ≡ None }
     requires room { too_large rule.now table.now.rows.next ≡ None }
-    ensures { IfOk result (λ rows. rows ≡ rows_after_step (signature_of schema.now) rule.now tuple.now table.now.rows) }
+    ensures rows { IfOk result (λ rows. rows ≡ rows_after_step (signature_of schema.now) rule.now tuple.now table.now.rows) }
+    ensures sound { IfOk result (λ rows. table_fault (signature_of schema.now) rows ≡ None) }
 {
     let next = all_next_after(alloc, schema, rule, table.rows())?;
     let names = all_names_after(alloc, schema, rule, table, tuple)?;
