@@ -1,18 +1,20 @@
 -- What each command answers of the bytes of a document: a status and a text.
-use Rattle.std.specs.Prelude.{ℕ, List, Option, Some, None, Result, Ok, Err, find}
+use Rattle.std.specs.Prelude.{◌≡◌, ℕ, List, Option, Some, None, Result, Ok, Err, find}
 use Rattle.std.specs.Str.{bytes_eq}
 use Rattle.rw_schema.specs.declared.section.Section.TheVariants.{Whole}
-use Rattle.rw_schema.specs.Presentation.{signature_of}
-use Rattle.rw_table.specs.Tabled.{instance_of_table}
-use Rattle.rw_pattern.specs.Matches as patterns
-use Rattle.rw_doc.specs.declared.document.Watch.{Watch}
+use Rattle.rw_rule.specs.RuleLists.{WatchLists}
 use Rattle.rw_doc.specs.declared.fault.DocFault.{DocFault}
 use Rattle.rw_doc.specs.Documents.{read_document}
 use Rattle.rw_doc.specs.Models.{DocumentLists}
+use Rattle.rw_print.specs.declared.end.End.{End}
+use Rattle.rw_print.specs.declared.end.End.TheVariants as ends
 use Rattle.rw_print.specs.Lines.{line, matches_data, fault_data}
 use Rattle.rw_app.specs.declared.status.Status.{Status}
-use Rattle.rw_app.specs.declared.status.Status.TheVariants.{Done, Refused}
-use Rattle.rw_app.specs.Commands.{Request, matches}
+use Rattle.rw_app.specs.declared.status.Status.TheVariants.{Done, Refused, Failed, Spent}
+use Rattle.rw_app.specs.Commands.{Request, matches, run}
+use Rattle.rw_app.specs.Kept.{named_goals, list_in}
+use Rattle.rw_app.specs.Runs.{Run, IsRun}
+use Rattle.rw_app.specs.RunTexts.{run_text}
 
 pub record AnswerText : Type 0 where
   pub status : Status
@@ -22,22 +24,34 @@ pub record AnswerText : Type 0 where
 abbrev pub refusal : DocFault → AnswerText
 refusal fault = record { status = Refused fault; text = line (fault_data fault.code fault.section fault.first fault.second fault.third) }
 
--- no watch has the name that was asked for
+-- no rule and no watch has the name that was asked for
 abbrev pub unknown_name : DocFault
 unknown_name = record { code = 6; section = Whole; first = 0; second = 0; third = 0 }
 
--- the matches of a watch, in lexicographic order
-abbrev pub listed : DocumentLists → Option Watch → AnswerText
+-- the matches of a goal, in lexicographic order
+abbrev pub listed : DocumentLists → Option WatchLists → AnswerText
 listed document None = refusal unknown_name
-listed document (Some watch) = record {
+listed document (Some named) = record {
   status = Done;
-  text = line (matches_data watch.name (patterns.matches (signature_of document.schema) watch.pattern (instance_of_table document.table)));
+  text = line (matches_data named.name (list_in document document.table.rows named));
 }
 
-abbrev pub answer_to : Request → Result DocumentLists DocFault → AnswerText
-answer_to request (Err fault) = refusal fault
-answer_to (matches name) (Ok document) = listed document (find (λ watch. bytes_eq name watch.name) document.watches)
+-- the status of a run's end
+abbrev pub status_of_end : End → Status
+status_of_end ends.Done = Done
+status_of_end ends.Failed = Failed
+status_of_end ends.Spent = Spent
 
--- the answer to a request about the document that bytes are
-abbrev pub answer_of : Request → List ℕ → AnswerText
-answer_of request bytes = answer_to request (read_document bytes)
+-- the text of a run, with the status of its end
+abbrev pub told : DocumentLists → Run → AnswerText
+told document run = record { status = status_of_end run.end; text = run_text document run }
+
+-- the answer is that to a request about a document, or about its first fault
+abbrev pub IsAnswerTo : Request → Result DocumentLists DocFault → AnswerText → Type 0
+IsAnswerTo request (Err fault) answer = answer ≡ refusal fault
+IsAnswerTo (matches name) (Ok document) answer = answer ≡ listed document (find (λ named. bytes_eq name named.name) (named_goals document))
+IsAnswerTo (run fuel seed) (Ok document) answer = (run : Run) × IsRun document fuel run × (answer ≡ told document run)
+
+-- the answer is that to a request about the document that bytes are
+abbrev pub IsAnswer : Request → List ℕ → AnswerText → Type 0
+IsAnswer request bytes answer = IsAnswerTo request (read_document bytes) answer

@@ -2,4 +2,9 @@ pub mod AnswerTexts
 pub mod Answers
 pub mod Commands
 pub mod Endings
+pub mod Kept
+pub mod Picked
+pub mod RunTexts
+pub mod Runners
+pub mod Runs
 pub mod Statuses

@@ -1,20 +1,24 @@
 //! The answer of a command: from the bytes of a document to a status and a text.
 
-ghost use Rattle.std.specs.Prelude.{◌≡◌, IfOk, None, find};
+ghost use Rattle.std.specs.Prelude.{◌≡◌, IfOk, None, Ok, find};
 ghost use Rattle.rw_schema.specs.Presentation.{signature_of};
-ghost use Rattle.rw_pattern.specs.PatternFaults.{pattern_fault};
 ghost use Rattle.std.specs.Option.{option_map};
 ghost use Rattle.std.specs.Str.{bytes_eq};
+ghost use Rattle.rw_rule.specs.RuleFaults.{IsGoalOver};
+ghost use Rattle.rw_rule.specs.RuleParts.{goal_of_parts};
 ghost use Rattle.rw_doc.specs.Models.{document_lists, IsSound};
-ghost use Rattle.rw_app.specs.Answers.{answer_of, answer_to, listed, refusal as refusal_of};
+ghost use Rattle.rw_app.specs.Answers.{IsAnswer, IsAnswerTo, listed, refusal as refusal_of};
 ghost use Rattle.rw_app.specs.AnswerTexts.{text_of_answer};
 ghost use Rattle.rw_app.specs.Commands.{asked_for, matches};
+ghost use Rattle.rw_app.specs.Kept.{named_goals};
 
+use crate::named::{Named, goal_named};
+use crate::runner::run_document;
 use crate::{Command, Status};
-use rw_doc::{DocFault, Document, ReadDocEnd, Watch, read_document};
+use rw_doc::{DocFault, Document, ReadDocEnd, read_document};
+use rw_lists::fresh_list;
 use rw_print::{fault_line, matches_line};
 use rw_schema::{OutOfMemory, Section};
-use rw_search::all_matches;
 use std::alloc::Global;
 
 /// What a command answers: how it ends, and the text that it writes.
@@ -30,7 +34,7 @@ pub fn answer_command(
     command: Command<'_>,
     bytes: &[u8],
 ) -> Result<Answer, OutOfMemory>
-    ensures { IfOk result (λ answer. text_of_answer answer ≡ answer_of (asked_for command.entry) bytes.now) }
+    ensures { IfOk result (λ answer. IsAnswer (asked_for command.entry) bytes.now (text_of_answer answer)) }
 {
     match read_document(alloc, bytes) {
         Ok(document) => answer_about(alloc, command, &document),
@@ -46,19 +50,21 @@ fn answer_about(
     document: &Document,
 ) -> Result<Answer, OutOfMemory>
     requires { IsSound (document_lists document.now) }
-    ensures { IfOk result (λ answer. text_of_answer answer ≡ answer_to (asked_for command.entry) (Ok (document_lists document.now))) }
+    ensures { IfOk result (λ answer. IsAnswerTo (asked_for command.entry) (Ok (document_lists document.now)) (text_of_answer answer)) }
 {
-    let Command::Matches(name) = command;
-    list_matches(alloc, name, document)
+    match command {
+        Command::Matches(name) => list_matches(alloc, name, document),
+        Command::Run { fuel, seed: _ } => run_document(alloc, document, fuel),
+    }
 }
 
-/// The matches of the watch with the name.
+/// The matches of the rule or the watch with the name.
 fn list_matches(alloc: Global, name: &str, document: &Document) -> Result<Answer, OutOfMemory>
     requires { IsSound (document_lists document.now) }
-    ensures { IfOk result (λ answer. text_of_answer answer ≡ answer_to (matches name.now) (Ok (document_lists document.now))) }
+    ensures { IfOk result (λ answer. text_of_answer answer ≡ listed (document_lists document.now) (find (λ named. bytes_eq name.now named.name) (named_goals (document_lists document.now)))) }
 {
-    match watch_named(document.watches.as_slice(), name) {
-        Some(watch) => list_watch(alloc, document, watch),
+    match goal_named(document, name) {
+        Some(named) => list_goal(alloc, document, named),
         None => refusal(
             alloc,
             DocFault {
@@ -72,21 +78,14 @@ fn list_matches(alloc: Global, name: &str, document: &Document) -> Result<Answer
     }
 }
 
-/// The watch with the name.
-fn watch_named<'a>(watches: &'a [Watch], name: &str) -> Option<&'a Watch>
-    ensures { option_map (λ watch. watch.now) result ≡ find (λ watch. bytes_eq name.now watch.name) watches.now }
-{
-    watches.iter().find(|watch| name == watch.name.as_str())
-}
-
-/// The matches of a watch.
-fn list_watch(alloc: Global, document: &Document, watch: &Watch) -> Result<Answer, OutOfMemory>
+/// The matches of a goal.
+fn list_goal(alloc: Global, document: &Document, named: Named<'_>) -> Result<Answer, OutOfMemory>
     requires sound { IsSound (document_lists document.now) }
-    requires pattern { pattern_fault (signature_of document.now.schema) watch.now.pattern ≡ None }
-    ensures { IfOk result (λ answer. text_of_answer answer ≡ listed (document_lists document.now) (Some watch.now)) }
+    requires goal { IsGoalOver (signature_of document.now.schema) (goal_of_parts named.goal.now) }
+    ensures { IfOk result (λ answer. text_of_answer answer ≡ listed (document_lists document.now) (Some (record { name = named.name.now; goal = goal_of_parts named.goal.now }))) }
 {
-    let tuples = all_matches(alloc, &document.schema, &document.table, &watch.pattern)?;
-    let text = matches_line(alloc, &watch.name, &tuples)?;
+    let tuples = fresh_list(alloc, &document.schema, named.goal, &document.table)?;
+    let text = matches_line(alloc, named.name, &tuples)?;
     Ok(Answer {
         status: Status::Done,
         text,

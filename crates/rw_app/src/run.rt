@@ -1,7 +1,7 @@
 //! The top call: from words and a source to a sink.
 
 ghost use Rattle.std.specs.Prelude.{◌≡◌, ◌≤◌, None, map, string_bytes};
-ghost use Rattle.rw_app.specs.Answers.{answer_of};
+ghost use Rattle.rw_app.specs.Answers.{IsAnswer};
 ghost use Rattle.rw_app.specs.Commands.{asked_for, request_of};
 ghost use Rattle.rw_app.specs.Endings.{Ends, EndsUnread, EndsAsAsked, EndsWritten, IsComplete, IsOfAnswer};
 ghost use Rattle.rw_app.specs.AnswerTexts.{text_of_answer};
@@ -27,10 +27,10 @@ pub fn run_words<S: Source, K: Sink, L: Ledger>(
     sink: &mut K,
     steps: &mut Steps<L>,
 ) -> Status
-    ensures ends { EndsAsAsked answer_of (request_of (map string_bytes words.now.items))
+    ensures ends { EndsAsAsked IsAnswer (request_of (map string_bytes words.now.items))
         (record { left = S.left source.old; held = K.held sink.old; source_faults = S.faults source.old; sink_faults = K.faults sink.old })
         (record { left = S.left source.new; held = K.held sink.new; source_faults = S.faults source.new; sink_faults = K.faults sink.new }) result }
-    ensures complete { IsComplete answer_of (request_of (map string_bytes words.now.items))
+    ensures complete { IsComplete IsAnswer (request_of (map string_bytes words.now.items))
         (record { left = S.left source.old; held = K.held sink.old; source_faults = S.faults source.old; sink_faults = K.faults sink.old })
         (record { left = S.left source.new; held = K.held sink.new; source_faults = S.faults source.new; sink_faults = K.faults sink.new }) result }
     ensures source_faults { S.faults source.old ≤ S.faults source.new }
@@ -48,7 +48,7 @@ fn dispatch<S: Source, K: Sink>(
     source: &mut S,
     sink: &mut K,
 ) -> Status
-    ensures ends { EndsAsAsked answer_of (request_of (map string_bytes words.now.items))
+    ensures ends { EndsAsAsked IsAnswer (request_of (map string_bytes words.now.items))
         (record { left = S.left source.old; held = K.held sink.old; source_faults = S.faults source.old; sink_faults = K.faults sink.old })
         (record { left = S.left source.new; held = K.held sink.new; source_faults = S.faults source.new; sink_faults = K.faults sink.new }) result }
     ensures source_faults { S.faults source.old ≤ S.faults source.new }
@@ -82,7 +82,7 @@ fn run_command<S: Source, K: Sink>(
     source: &mut S,
     sink: &mut K,
 ) -> Status
-    ensures ends { Ends (answer_of (asked_for command.entry))
+    ensures ends { Ends (IsAnswer (asked_for command.entry))
         (record { left = S.left source.old; held = K.held sink.old; source_faults = S.faults source.old; sink_faults = K.faults sink.old })
         (record { left = S.left source.new; held = K.held sink.new; source_faults = S.faults source.new; sink_faults = K.faults sink.new }) result }
     ensures source_faults { S.faults source.old ≤ S.faults source.new }
@@ -98,7 +98,7 @@ fn run_command<S: Source, K: Sink>(
 
 /// Writes what the command answers to the bytes.
 fn write_answer<K: Sink>(alloc: Global, command: Command<'_>, bytes: &[u8], sink: &mut K) -> Status
-    ensures ends { EndsWritten (answer_of (asked_for command.entry) bytes.now)
+    ensures ends { EndsWritten (IsAnswer (asked_for command.entry) bytes.now)
         (record { left = None; held = K.held sink.old; source_faults = 0; sink_faults = K.faults sink.old })
         (record { left = None; held = K.held sink.new; source_faults = 0; sink_faults = K.faults sink.new }) result }
     ensures sink_faults { K.faults sink.old ≤ K.faults sink.new }
@@ -112,7 +112,7 @@ fn write_answer<K: Sink>(alloc: Global, command: Command<'_>, bytes: &[u8], sink
 /// Writes the text of an answer, and gives its status.
 fn write_text<K: Sink>(answer: &Answer, sink: &mut K) -> Status
     requires { IsOfAnswer answer.now.status }
-    ensures ends { EndsWritten (text_of_answer answer.now)
+    ensures ends { EndsWritten (λ other. other ≡ text_of_answer answer.now)
         (record { left = None; held = K.held sink.old; source_faults = 0; sink_faults = K.faults sink.old })
         (record { left = None; held = K.held sink.new; source_faults = 0; sink_faults = K.faults sink.new }) result }
     ensures sink_faults { K.faults sink.old ≤ K.faults sink.new }

@@ -14,6 +14,10 @@ pub enum Status {
     BadWords,
     /// The document has this first fault; the fault line is written.
     Refused(DocFault),
+    /// The run stands at a box without fuel; the line of its end is written.
+    Spent,
+    /// The run ended at a failure; the line of its end is written.
+    Failed,
     /// Memory ran out.
     NoMemory,
     /// Reading failed; nothing is written.
@@ -33,6 +37,8 @@ impl Status {
             Status::Done => 0,
             Status::BadWords => 2,
             Status::Refused(_) => 3,
+            Status::Spent => 4,
+            Status::Failed => 5,
             Status::NoMemory => 6,
             Status::ReadFault => 7,
             Status::WriteFault => 8,

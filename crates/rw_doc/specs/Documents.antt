@@ -18,7 +18,11 @@ use Rattle.rw_table.specs.Tabled.{Tabled}
 use Rattle.rw_table.specs.TableFaults.{table_fault}
 use Rattle.rw_pattern.specs.PatternFaults.{pattern_fault}
 use Rattle.rw_pattern.specs.PatternLists.{PatternLists}
-use Rattle.rw_doc.specs.declared.document.Watch.{Watch}
+use Rattle.rw_rule.specs.PlainRules.{is_plain}
+use Rattle.rw_rule.specs.RuleFaults.{rule_fault}
+use Rattle.rw_rule.specs.RuleLists.{GoalLists, RuleLists, WatchLists}
+use Rattle.rw_rule.specs.declared.kind.RuleKind.{RuleKind}
+use Rattle.rw_rule.specs.declared.kind.RuleKind.TheVariants.{Dpo}
 use Rattle.rw_doc.specs.declared.fault.DocFault.{DocFault}
 use Rattle.rw_doc.specs.Chain.{and_then, each_in, some_or, passes, sound}
 use Rattle.rw_doc.specs.Json.{as_list, as_count, has_only}
@@ -131,7 +135,7 @@ abbrev pub instance_or_none : Signature → Option Data → Result Tabled DocFau
 instance_or_none C None = empty_instance C
 instance_or_none C (Some value) = read_instance C value
 
--- ---- the watches
+-- ---- patterns, maps and goals
 
 abbrev pub pattern_lists : List ℕ → List (List ℕ) → PatternLists
 pattern_lists sizes rows = record { sizes = sizes; rows = rows }
@@ -147,6 +151,28 @@ abbrev pub read_pattern : Signature → Data → Result PatternLists DocFault
 read_pattern C value = and_then (with_keys (codes "parts" ∷ codes "rows" ∷ []) value) (λ value.
     and_then (read_sizes value) (λ sizes. and_then (read_rows value) (λ rows. pattern_of C sizes rows)))
 
+-- the pattern at a key
+abbrev pub pattern_at : Signature → List ℕ → Data → Result PatternLists DocFault
+pattern_at C key value = and_then (needed key value) (read_pattern C)
+
+-- a map has one list of images for each object
+abbrev pub map_at : Signature → List ℕ → Data → Result (List (List ℕ)) DocFault
+map_at C key value = and_then (needed key value) (λ value.
+    and_then (read_count_lists value) (λ images. passes not_built (length images == C.objects) images))
+
+-- of each object whether it is listed
+abbrev pub marks_of : ℕ → List ObjectId → List Bool
+marks_of objects listed = map (λ object. list_any (λ other. other.0 == object) listed) (range_with_len 0 objects)
+
+-- the objects with the names that are written, or none
+abbrev pub objects_or_none : List (List ℕ) → Option Data → Result (List ObjectId) DocFault
+objects_or_none objects None = Ok []
+objects_or_none objects (Some value) = and_then (read_items value) (each_in (λ place. read_object objects) 0)
+
+-- of each object whether its name is listed at the key `monic`
+abbrev pub read_monic : List (List ℕ) → Data → Result (List Bool) DocFault
+read_monic objects value = and_then (objects_or_none objects (get (codes "monic") value)) (λ listed. Ok (marks_of (length objects) listed))
+
 -- the name itself, of 1 to 255 bytes
 abbrev pub checked_name : List ℕ → Result (List ℕ) DocFault
 checked_name name = passes not_built (is_name name) name
@@ -154,25 +180,76 @@ checked_name name = passes not_built (is_name name) name
 abbrev pub read_name : Data → Result (List ℕ) DocFault
 read_name value = and_then (needed (codes "name") value) (λ value. and_then (read_text value) checked_name)
 
-abbrev pub read_watch : Signature → Data → Result Watch DocFault
-read_watch C value = and_then (with_keys (codes "name" ∷ codes "pattern" ∷ []) value) (λ value. and_then (read_name value) (λ name.
-    and_then (needed (codes "pattern") value) (λ value. and_then (read_pattern C value) (λ pattern. Ok (record { name = name; pattern = pattern })))))
+-- ---- the rules
 
--- no watch before the place has the watch's name
-abbrev pub is_new : List Watch → ℕ → Watch → Bool
-is_new watches place watch = not (list_any (λ other. bytes_eq watch.name other.name) (take place watches))
+abbrev pub rule_keys : List (List ℕ)
+rule_keys = codes "keep" ∷ codes "kind" ∷ codes "l" ∷ codes "left" ∷ codes "monic" ∷ codes "name" ∷ codes "r" ∷ codes "right" ∷ []
 
--- no watch has the name of an earlier one
-abbrev pub are_apart : List Watch → Bool
-are_apart watches = all_in (is_new watches) 0 watches
+-- the one kind that is read so far
+abbrev pub read_kind : Data → Result RuleKind DocFault
+read_kind value = and_then (needed (codes "kind") value) (λ value.
+    and_then (read_text value) (λ word. passes not_built (bytes_eq word (codes "dpo")) Dpo))
 
-abbrev pub read_watches : Signature → Data → Result (List Watch) DocFault
-read_watches C value = and_then (read_at_most 64 value) (λ items.
-    and_then (each_in (λ place. read_watch C) 0 items) (λ watches. passes not_built (are_apart watches) watches))
+-- the left side and the monic objects
+abbrev pub read_goal : Presentation → Data → Result GoalLists DocFault
+read_goal schema value = and_then (pattern_at (signature_of schema) (codes "left") value) (λ left.
+    and_then (read_monic schema.objects value) (λ monic. Ok (record { left = left; monic = monic })))
 
-abbrev pub watches_or_none : Signature → Option Data → Result (List Watch) DocFault
-watches_or_none C None = Ok []
-watches_or_none C (Some value) = read_watches C value
+-- the rule of the lists, where they are one that is built so far
+abbrev pub rule_of : Signature → RuleLists → Result RuleLists DocFault
+rule_of C rule = and_then (sound not_built (rule_fault C rule) rule) (λ rule. passes not_built (is_plain rule) rule)
+
+abbrev pub read_rule : Presentation → Data → Result RuleLists DocFault
+read_rule schema value = and_then (with_keys rule_keys value) (λ value. and_then (read_name value) (λ name. and_then (read_kind value) (λ kind.
+    and_then (read_goal schema value) (λ goal.
+    and_then (pattern_at (signature_of schema) (codes "keep") value) (λ keep. and_then (pattern_at (signature_of schema) (codes "right") value) (λ right.
+    and_then (map_at (signature_of schema) (codes "l") value) (λ l. and_then (map_at (signature_of schema) (codes "r") value) (λ r.
+    rule_of (signature_of schema) (record { name = name; kind = kind; goal = goal; keep = keep; right = right; l = l; r = r })))))))))
+
+-- no rule has the name
+abbrev pub is_no_rule : List RuleLists → List ℕ → Bool
+is_no_rule rules name = not (list_any (λ (rule : RuleLists). bytes_eq name rule.name) rules)
+
+-- no rule before the place has the rule's name
+abbrev pub is_new_rule : List RuleLists → ℕ → RuleLists → Bool
+is_new_rule rules place rule = is_no_rule (take place rules) rule.name
+
+-- no rule has the name of an earlier one
+abbrev pub are_rules_apart : List RuleLists → Bool
+are_rules_apart rules = all_in (is_new_rule rules) 0 rules
+
+abbrev pub read_rules : Presentation → Data → Result (List RuleLists) DocFault
+read_rules schema value = and_then (read_at_most 256 value) (λ items.
+    and_then (each_in (λ place. read_rule schema) 0 items) (λ rules. passes not_built (are_rules_apart rules) rules))
+
+abbrev pub rules_or_none : Presentation → Option Data → Result (List RuleLists) DocFault
+rules_or_none schema None = Ok []
+rules_or_none schema (Some value) = read_rules schema value
+
+-- ---- the watches
+
+-- a watch has no monic objects so far
+abbrev pub read_watch : Presentation → Data → Result WatchLists DocFault
+read_watch schema value = and_then (with_keys (codes "name" ∷ codes "pattern" ∷ []) value) (λ value. and_then (read_name value) (λ name.
+    and_then (pattern_at (signature_of schema) (codes "pattern") value) (λ pattern.
+    Ok (record { name = name; goal = record { left = pattern; monic = marks_of (length schema.objects) [] } }))))
+
+-- no rule and no watch before the place has the watch's name
+abbrev pub is_new_watch : List RuleLists → List WatchLists → ℕ → WatchLists → Bool
+is_new_watch rules watches place watch =
+    is_no_rule rules watch.name && not (list_any (λ (other : WatchLists). bytes_eq watch.name other.name) (take place watches))
+
+-- no watch has the name of a rule or of an earlier watch
+abbrev pub are_watches_apart : List RuleLists → List WatchLists → Bool
+are_watches_apart rules watches = all_in (is_new_watch rules watches) 0 watches
+
+abbrev pub read_watches : Presentation → List RuleLists → Data → Result (List WatchLists) DocFault
+read_watches schema rules value = and_then (read_at_most 64 value) (λ items.
+    and_then (each_in (λ place. read_watch schema) 0 items) (λ watches. passes not_built (are_watches_apart rules watches) watches))
+
+abbrev pub watches_or_none : Presentation → List RuleLists → Option Data → Result (List WatchLists) DocFault
+watches_or_none schema rules None = Ok []
+watches_or_none schema rules (Some value) = read_watches schema rules value
 
 -- ---- the whole
 
@@ -181,14 +258,15 @@ abbrev pub with_format : Data → Result Data DocFault
 with_format value = and_then (needed (codes "format") value) (λ format. and_then (read_count format) (λ number. passes not_built (number == 1) value))
 
 abbrev pub document_keys : List (List ℕ)
-document_keys = codes "format" ∷ codes "instance" ∷ codes "schema" ∷ codes "watches" ∷ []
+document_keys = codes "format" ∷ codes "instance" ∷ codes "rules" ∷ codes "schema" ∷ codes "watches" ∷ []
 
 abbrev pub read_value : Data → Result DocumentLists DocFault
 read_value value = and_then (with_keys document_keys value) (λ value. and_then (with_format value) (λ value.
     and_then (needed (codes "schema") value) (λ schema. and_then (read_schema schema) (λ schema.
     and_then (instance_or_none (signature_of schema) (get (codes "instance") value)) (λ table.
-    and_then (watches_or_none (signature_of schema) (get (codes "watches") value)) (λ watches.
-    Ok (record { schema = schema; table = table; watches = watches })))))))
+    and_then (rules_or_none schema (get (codes "rules") value)) (λ rules.
+    and_then (watches_or_none schema rules (get (codes "watches") value)) (λ watches.
+    Ok (record { schema = schema; table = table; rules = rules; watches = watches }))))))))
 
 -- the JSON value that bytes are
 abbrev pub read_json : List ℕ → Result Data DocFault

@@ -1,21 +1,35 @@
 -- What a document says, as contracts see it.
-use Rattle.std.specs.Prelude.{◌≡◌, List, None}
+use Rattle.std.specs.Prelude.{◌≡◌, true, List, map, ◌++◌}
 use Rattle.std.specs.List.{All}
 use Rattle.rw_schema.specs.Presentation.{Presentation, signature_of}
 use Rattle.rw_table.specs.Tabled.{Tabled, IsOver}
-use Rattle.rw_pattern.specs.PatternFaults.{pattern_fault}
+use Rattle.rw_rule.specs.PlainRules.{is_plain}
+use Rattle.rw_rule.specs.RuleFaults.{IsGoalOver, IsRuleOver}
+use Rattle.rw_rule.specs.RuleLists.{GoalLists, RuleLists, WatchLists}
+use Rattle.rw_rule.specs.RuleParts.{lists_of_watch}
 use Rattle.rw_doc.specs.declared.document.Document.{Document}
-use Rattle.rw_doc.specs.declared.document.Watch.{Watch}
 
 pub record DocumentLists : Type 0 where
   pub schema : Presentation
   pub table : Tabled
-  pub watches : List Watch
+  pub rules : List RuleLists
+  pub watches : List WatchLists
 
 abbrev pub document_lists : Document → DocumentLists
-document_lists document = record { schema = document.schema; table = document.table; watches = document.watches.items }
+document_lists document = record {
+  schema = document.schema;
+  table = document.table;
+  rules = document.rules.items;
+  watches = map lists_of_watch document.watches.items;
+}
 
--- the table is over the schema, and each watch has a pattern over it
+-- the goals of a document: of the rules, and then of the watches
+abbrev pub goals_of : DocumentLists → List GoalLists
+goals_of document = map (λ (rule : RuleLists). rule.goal) document.rules ++ map (λ (watch : WatchLists). watch.goal) document.watches
+
+-- the table is over the schema, and so is each rule and each watch; each rule is one whose steps are built so far
 pub record IsSound (document : DocumentLists) : Type 0 where
   pub table : IsOver document.schema document.table
-  pub patterns : All (λ (watch : Watch). pattern_fault (signature_of document.schema) watch.pattern ≡ None) document.watches
+  pub rules : All (IsRuleOver (signature_of document.schema)) document.rules
+  pub plain : All (λ rule. is_plain rule ≡ true) document.rules
+  pub watches : All (λ (watch : WatchLists). IsGoalOver (signature_of document.schema) watch.goal) document.watches

@@ -1,20 +1,14 @@
 //! What a document says.
 
-use rw_pattern::Pattern;
-use rw_schema::{Schema, Text};
+use rw_rule::{Rule, Watch};
+use rw_schema::Schema;
 use rw_table::Table;
 
-/// A pattern whose matches are listed, under a name.
-#[derive(Drop)]
-pub struct Watch {
-    pub name: Text,
-    pub pattern: Pattern,
-}
-
-/// What a document without a fault says: a schema, an instance of it and watched patterns over it.
+/// What a document without a fault says: a schema, an instance of it, rules and watches over it.
 #[derive(Drop)]
 pub struct Document {
     pub schema: Schema,
     pub table: Table,
+    pub rules: Vec<Rule>,
     pub watches: Vec<Watch>,
 }

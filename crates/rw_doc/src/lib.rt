@@ -12,7 +12,7 @@ mod schema;
 mod tests;
 mod watches;
 
-pub use document::{Document, Watch};
+pub use document::Document;
 pub use end::ReadDocEnd;
 pub use fault::DocFault;
 pub use read::read_document;

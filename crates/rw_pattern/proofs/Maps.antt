@@ -12,7 +12,7 @@ use Rattle.rw_pattern.specs.declared.map_fault.MapFault.{MapFault}
 use Rattle.rw_pattern.specs.declared.map_fault.MapFault.TheVariants.{Shape, Range, NotNatural}
 use Rattle.rw_pattern.specs.MapFaults.{image_of, has_images, has_map_shape, image_fault, commutes_at, square_fault, map_fault}
 use Rattle.rw_pattern.specs.PatternLists.{PatternLists, size_of, instance_of_pattern}
-use Rattle.rw_pattern.proofs.Naturality.{part_below, has_part}
+use Rattle.rw_pattern.proofs.PartNames.{part_below, has_part}
 use Rattle.rw_pattern.proofs.Places.{parts_within}
 use Rattle.rw_pattern.proofs.Sequences.{all_in_at}
 use Rattle.rw_pattern.proofs.Shapes.{IsPattern, row_long}

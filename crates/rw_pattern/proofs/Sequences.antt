@@ -188,3 +188,14 @@ all_in_at f i (y ∷ xs) zero x all there =
 all_in_at f i (y ∷ xs) (suc k) x all there =
     let same : (i + 1) + k ≡ i + suc k = omega arith in
     rw (← same) (all_in_at f (i + 1) xs k x (and_parts (f i y) (all_in f (i + 1) xs) all).1 there)
+
+-- a test that holds at each place holds of all items and their places
+pub all_in_from_each : {X : Type 0} (f : ℕ → X → Bool) (i : ℕ) (xs : List X) → ((k : ℕ) (x : X) → slice_get xs k ≡ Some x → f (i + k) x ≡ true) → all_in f i xs ≡ true
+all_in_from_each f i [] each = refl
+all_in_from_each f i (x ∷ xs) each =
+    let here : f i x ≡ true = rw add-zero at (each zero x refl) in
+    let later : all_in f (i + 1) xs ≡ true =
+    all_in_from_each f (i + 1) xs (λ k y there.
+    let same : (i + 1) + k ≡ i + suc k = omega arith in
+    rw same (each (suc k) y there)) in
+    rw (here, later) refl

@@ -1,9 +1,10 @@
 //! The lists of an instance.
 
-ghost use Rattle.std.specs.Prelude.{◌≡◌, ◌<◌, ◌↔◌, IsTrue, [], length, map, slice_get, slice_index, Some};
+ghost use Rattle.std.specs.Prelude.{◌≡◌, ◌<◌, ◌↔◌, IfOk, IsTrue, [], length, map, slice_get, slice_index, Some};
 ghost use Rattle.rw_schema.specs.RowLists.{RowLists, list_at};
 
-use crate::{ArrowId, ObjectId};
+use crate::{ArrowId, ObjectId, OutOfMemory};
+use std::alloc::Global;
 use std::marker::Model;
 
 /// The lists of an instance: of each object the names of its parts, of each arrow one image for each name
@@ -91,6 +92,20 @@ impl Rows {
         self.next.len()
     }
 
+    /// A copy, in memory of its own.
+    pub fn copy(&self, alloc: Global) -> Result<Rows, OutOfMemory>
+        ensures { IfOk result (λ rows. rows ≡ self.now) }
+    {
+        let names = copy_lists(alloc, self.names.as_slice())?;
+        let arrows = copy_lists(alloc, self.arrows.as_slice())?;
+        let next = self.next.as_slice().to_vec(alloc)?;
+        Ok(Rows {
+            names,
+            arrows,
+            next,
+        })
+    }
+
     /// Whether all lists of both are equal.
     pub fn same(&self, other: &Rows) -> bool
         ensures { IsTrue result ↔ (self.now ≡ other.now) }
@@ -99,6 +114,17 @@ impl Rows {
             && are_equal(self.arrows.as_slice(), other.arrows.as_slice())
             && self.next == other.next
     }
+}
+
+/// A copy of each list.
+fn copy_lists(alloc: Global, lists: &[Vec<u32>]) -> Result<Vec<Vec<u32>>, OutOfMemory>
+    ensures { IfOk result (λ copies. map (λ list. list.items) copies.items ≡ map (λ list. list.items) lists.now) }
+{
+    let mut copies = Vec::new(alloc);
+    for list in lists {
+        copies.push(list.as_slice().to_vec(alloc)?)?;
+    }
+    Ok(copies)
 }
 
 /// Whether the lists of both are equal.

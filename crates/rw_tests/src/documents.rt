@@ -36,3 +36,51 @@ pub const PETRI: &str = r#"{"format":1,"schema":{"objects":["Place","Transition"
 "arrows":[["from","Input","Place"],["into","Input","Transition"],["to","Output","Place"],["out","Output","Transition"]]},
 "instance":{"parts":[3,2,3,3],"rows":[[0,1,1],[0,0,1],[1,1,2],[0,0,1]]},
 "watches":[{"name":"catalyst","pattern":{"parts":[1,1,1,1],"rows":[[0],[0],[0],[0]]}}]}"#;
+
+/// A rule that puts a loop at a vertex, and no instance.
+pub const GROW: &str =
+    r#"{"format":1,"schema":{"objects":["V","E"],"arrows":[["src","E","V"],["tgt","E","V"]]},
+"rules":[{"name":"grow","kind":"dpo",
+"left":{"parts":[1,0],"rows":[[],[]]},"keep":{"parts":[1,0],"rows":[[],[]]},"right":{"parts":[1,1],"rows":[[0],[0]]},
+"l":[[0],[]],"r":[[0],[]]}]}"#;
+
+/// A rule that makes a vertex from nothing, and no instance.
+pub const ADD: &str =
+    r#"{"format":1,"schema":{"objects":["V","E"],"arrows":[["src","E","V"],["tgt","E","V"]]},
+"rules":[{"name":"add","kind":"dpo",
+"left":{"parts":[0,0],"rows":[[],[]]},"keep":{"parts":[0,0],"rows":[[],[]]},"right":{"parts":[1,0],"rows":[[],[]]},
+"l":[[],[]],"r":[[],[]]}]}"#;
+
+/// A rule that deletes a vertex, and two vertices with an edge.
+pub const DELETE: &str =
+    r#"{"format":1,"schema":{"objects":["V","E"],"arrows":[["src","E","V"],["tgt","E","V"]]},
+"instance":{"parts":[2,1],"rows":[[0],[1]]},
+"rules":[{"name":"del","kind":"dpo",
+"left":{"parts":[1,0],"rows":[[],[]]},"keep":{"parts":[0,0],"rows":[[],[]]},"right":{"parts":[0,0],"rows":[[],[]]},
+"l":[[],[]],"r":[[],[]]}]}"#;
+
+/// The same rule, and two vertices without an edge.
+pub const CLEAR: &str =
+    r#"{"format":1,"schema":{"objects":["V","E"],"arrows":[["src","E","V"],["tgt","E","V"]]},
+"instance":{"parts":[2,0],"rows":[[],[]]},
+"rules":[{"name":"del","kind":"dpo",
+"left":{"parts":[1,0],"rows":[[],[]]},"keep":{"parts":[0,0],"rows":[[],[]]},"right":{"parts":[0,0],"rows":[[],[]]},
+"l":[[],[]],"r":[[],[]]}]}"#;
+
+/// A rule that replaces an edge by one between the same vertices, a loop and an edge, and the pattern of an edge.
+pub const REPLACE: &str =
+    r#"{"format":1,"schema":{"objects":["V","E"],"arrows":[["src","E","V"],["tgt","E","V"]]},
+"instance":{"parts":[2,2],"rows":[[0,0],[0,1]]},
+"rules":[{"name":"replace","kind":"dpo","monic":["V"],
+"left":{"parts":[2,1],"rows":[[0],[1]]},"keep":{"parts":[2,0],"rows":[[],[]]},"right":{"parts":[2,1],"rows":[[0],[1]]},
+"l":[[0,1],[]],"r":[[0,1],[]]}],
+"watches":[{"name":"edge","pattern":{"parts":[2,1],"rows":[[0],[1]]}}]}"#;
+
+/// A rule that deletes a vertex and makes an edge between two others: a triangle's corner is cut off only where no other
+/// edge hangs on it. The instance is a triangle with a tail.
+pub const CUT_CORNER: &str =
+    r#"{"format":1,"schema":{"objects":["V","E"],"arrows":[["src","E","V"],["tgt","E","V"]]},
+"instance":{"parts":[4,4],"rows":[[0,1,2,2],[1,2,0,3]]},
+"rules":[{"name":"cut","kind":"dpo","monic":["V","E"],
+"left":{"parts":[3,2],"rows":[[0,1],[1,2]]},"keep":{"parts":[2,0],"rows":[[],[]]},"right":{"parts":[2,1],"rows":[[0],[1]]},
+"l":[[0,2],[]],"r":[[0,1],[]]}]}"#;

@@ -10,7 +10,7 @@ use std::process::Abort;
 use std::sync::ledger::{Blank, Ledger};
 use std::test::Fail;
 
-const USAGE: &str =
+pub const USAGE: &str =
     "usage: rewrite matches NAME | run [--fuel N] [--seed N] | check | pushout | pullback | sample N\n";
 
 /// Runs the words over both ends.
@@ -48,7 +48,7 @@ fn owned(alloc: Global, words: &[&str]) -> Result<Vec<String>, Fail> {
 }
 
 /// The status and the text of words over a document, with room for the text.
-fn check(
+pub fn check(
     rt: &impl Abort,
     alloc: Global,
     words: &[&str],

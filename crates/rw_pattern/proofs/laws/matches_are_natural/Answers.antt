@@ -4,4 +4,4 @@ use Rattle.rw_pattern.proofs.Naturality.{matches_natural}
 use Rattle.rw_pattern.proofs.laws.matches_are_natural.Goals as goal
 
 pub returns : goal.returns
-returns c = matches_natural (signature_of c.args.schema.now) c.args.pattern.now c.requires
+returns c = matches_natural (signature_of c.args.schema.now) c.args.pattern.now c.args.monic.now c.requires

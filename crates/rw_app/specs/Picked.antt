@@ -1,0 +1,26 @@
+-- What a picking of a match gives, as contracts see it.
+use Rattle.std.specs.Prelude.{◌≡◌, ℕ, List, Option, Some, None}
+use Rattle.rw_schema.specs.RowLists.{RowLists}
+use Rattle.rw_schema.specs.Signature.{Signature}
+use Rattle.rw_spec.specs.Instance.{instance_of}
+use Rattle.rw_rule.specs.RuleLists.{RuleLists}
+use Rattle.rw_plain.specs.PlainStep.{rows_after}
+use Rattle.rw_lists.specs.Fresh.{fresh_list}
+use Rattle.rw_app.specs.declared.pick.Applied.{Applied}
+use Rattle.rw_app.specs.declared.pick.Pick.{Pick}
+use Rattle.rw_app.specs.Runs.{Picks}
+
+-- the match that is applied
+abbrev pub applied_tuple : Option Applied → Option (List ℕ)
+applied_tuple None = None
+applied_tuple (Some applied) = Some applied.tuple
+
+-- the instance after a step is over the signature, and it is that of the step
+abbrev pub IsStep : Signature → RuleLists → RowLists → Option Applied → Type 0
+IsStep C rule rows None = Unit {0}
+IsStep C rule rows (Some applied) = applied.after ≡ record { signature = C; rows = rows_after C rule applied.tuple rows }
+
+-- the first match without an obstruction is picked, and the step is made
+abbrev pub IsPick : Signature → RuleLists → RowLists → Pick → Type 0
+IsPick C rule rows pick =
+    Picks C rule rows (fresh_list C (instance_of C rows) rule.goal) pick.refused.items (applied_tuple pick.applied) × IsStep C rule rows pick.applied

@@ -1,0 +1,51 @@
+-- What the calls of a run give, as contracts see it.
+use Rattle.std.specs.Prelude.{◌≡◌, ◌<◌, ℕ, List, ◌++◌, map}
+use Rattle.std.specs.List.{flat_map}
+use Rattle.std.specs.Option.{is_some}
+use Rattle.rw_schema.specs.Presentation.{signature_of}
+use Rattle.rw_schema.specs.RowLists.{RowLists}
+use Rattle.rw_table.specs.Tabled.{IsOver}
+use Rattle.rw_rule.specs.RuleLists.{RuleLists}
+use Rattle.rw_doc.specs.Models.{DocumentLists}
+use Rattle.rw_print.specs.declared.end.End.{End}
+use Rattle.rw_app.specs.declared.firing.Fired.{Fired}
+use Rattle.rw_app.specs.declared.runner.Ran.{Ran}
+use Rattle.rw_app.specs.declared.world.World.{World}
+use Rattle.rw_app.specs.Kept.{lists_in}
+use Rattle.rw_app.specs.Runs.{Firing, Fires, Leads, Stand, default_schedule}
+use Rattle.rw_app.specs.RunTexts.{firing_line}
+
+-- the state is an instance over the document's schema, and each kept list is the fresh one
+pub record IsWorld (document : DocumentLists) (world : World) : Type 0 where
+  pub over : IsOver document.schema world.table
+  pub fresh : map (λ list. list.items) world.lists.items ≡ lists_in document world.table.rows
+
+-- the rule's box, the first of the schedule, fires in the instance; this is the line of the firing, and this its state
+pub record IsFiring (document : DocumentLists) (rule : RuleLists) (before : RowLists) (fired : Fired) (firing : Firing) : Type 0 where
+  pub fires : Fires (signature_of document.schema) firing
+  pub place : firing.place ≡ 0
+  pub rule : firing.rule ≡ rule
+  pub before : firing.before ≡ before
+  pub after : firing.after ≡ fired.world.table.rows
+  pub applied : is_some firing.applied ≡ fired.applied
+  pub line : fired.line.items ≡ firing_line document firing
+  pub world : IsWorld document fired.world
+
+-- the run stands at the schedule's first box
+abbrev pub at_first : ℕ → RowLists → Stand
+at_first fuel rows = record { place = 0; fuel = fuel; rows = rows }
+
+-- the firings lead from the first box to the end, these are their lines, and this is the state
+pub record HasRun (document : DocumentLists) (fuel : ℕ) (rows : RowLists) (ran : Ran) (firings : List Firing) (last : Stand) : Type 0 where
+  pub text : ran.text.items ≡ flat_map (firing_line document) firings
+  pub leads : Leads (signature_of document.schema) (default_schedule document.rules) (at_first fuel rows) firings last ran.end
+  pub fuel : last.fuel ≡ ran.fuel
+  pub rows : last.rows ≡ ran.world.table.rows
+  pub world : IsWorld document ran.world
+
+-- the firings so far lead to a state from which each run goes on: this is what a run knows that has not ended
+pub record HasBegun (document : DocumentLists) (fuel left : ℕ) (rows now : RowLists) (text : List ℕ) (firings : List Firing) : Type 0 where
+  pub text : text ≡ flat_map (firing_line document) firings
+  pub leads : (more : List Firing) (last : Stand) (end : End)
+      → Leads (signature_of document.schema) (default_schedule document.rules) (at_first left now) more last end
+      → Leads (signature_of document.schema) (default_schedule document.rules) (at_first fuel rows) (firings ++ more) last end

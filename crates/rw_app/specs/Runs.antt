@@ -1,0 +1,110 @@
+-- The run of a document: the firings of its schedule, one after the other.
+use Rattle.std.specs.Prelude.{◌≡◌, ◌<◌, ◌-◌, ℕ, List, [], ◌∷◌, ◌++◌, map, Option, Some, None, slice_get}
+use Rattle.std.specs.List.{All}
+use Rattle.rw_schema.specs.Presentation.{signature_of}
+use Rattle.rw_schema.specs.RowLists.{RowLists}
+use Rattle.rw_schema.specs.Signature.{Signature}
+use Rattle.rw_spec.specs.Instance.{instance_of}
+use Rattle.rw_rule.specs.RuleLists.{RuleLists}
+use Rattle.rw_rule.specs.declared.refusal.Refusal.{Refusal}
+use Rattle.rw_plain.specs.Obstructions.{obstruction}
+use Rattle.rw_plain.specs.PlainStep.{rows_after}
+use Rattle.rw_lists.specs.Fresh.{fresh_list}
+use Rattle.rw_doc.specs.Models.{DocumentLists}
+use Rattle.rw_print.specs.declared.end.End.{End}
+use Rattle.rw_print.specs.declared.end.End.TheVariants.{Done, Failed, Spent}
+
+-- ---- one firing
+
+-- a firing of a rule's box: the instance before and after, the matches that were refused, each with its obstruction, and
+-- the match that was applied
+pub record Firing : Type 0 where
+  pub place : ℕ
+  pub rule : RuleLists
+  pub before : RowLists
+  pub refused : List (List ℕ × Refusal)
+  pub applied : Option (List ℕ)
+  pub after : RowLists
+
+-- each refused match has this first obstruction
+abbrev pub AreRefused : Signature → RuleLists → RowLists → List (List ℕ × Refusal) → Type 0
+AreRefused C rule rows refused = All (λ (entry : List ℕ × Refusal). obstruction C rule entry.0 rows ≡ Some entry.1) refused
+
+abbrev pub tuples_of : List (List ℕ × Refusal) → List (List ℕ)
+tuples_of refused = map (λ (entry : List ℕ × Refusal). entry.0) refused
+
+-- of a list of matches the first without an obstruction is picked, and those before it are refused; where each has an
+-- obstruction none is picked, and all are refused
+abbrev pub Picks : Signature → RuleLists → RowLists → List (List ℕ) → List (List ℕ × Refusal) → Option (List ℕ) → Type 0
+Picks C rule rows found refused None = (found ≡ tuples_of refused) × AreRefused C rule rows refused
+Picks C rule rows found refused (Some tuple) =
+    ((rest : List (List ℕ)) × (found ≡ tuples_of refused ++ tuple ∷ rest)) × AreRefused C rule rows refused × (obstruction C rule tuple rows ≡ None)
+
+-- a picked match is applied; where none is picked the instance stays
+abbrev pub Changes : Signature → RuleLists → RowLists → Option (List ℕ) → RowLists → Type 0
+Changes C rule before None after = after ≡ before
+Changes C rule before (Some tuple) after = after ≡ rows_after C rule tuple before
+
+-- the matches are tried in the order of the rule's list, and the one that is picked is applied
+pub record Fires (C : Signature) (firing : Firing) : Type 0 where
+  pub picks : Picks C firing.rule firing.before (fresh_list C (instance_of C firing.before) firing.rule.goal) firing.refused firing.applied
+  pub changes : Changes C firing.rule firing.before firing.applied firing.after
+
+-- ---- the schedule
+
+pub data Box : Type 0 where
+  rule : RuleLists → Box
+  exit : Box
+
+-- the default schedule: the first rule until it fails, and then the exit; without rules the exit alone
+abbrev pub default_schedule : List RuleLists → List Box
+default_schedule [] = exit ∷ []
+default_schedule (first ∷ others) = rule first ∷ exit ∷ []
+
+-- where the rule's box leads: back to itself where it was applied, else to the exit
+abbrev pub place_after : Option (List ℕ) → ℕ
+place_after None = 1
+place_after (Some tuple) = 0
+
+-- where a run stands: at which box, with how much fuel, in which instance
+pub record Stand : Type 0 where
+  pub place : ℕ
+  pub fuel : ℕ
+  pub rows : RowLists
+
+-- a firing takes one fuel
+abbrev pub stand_after : Stand → Firing → Stand
+stand_after stand firing = record { place = place_after firing.applied; fuel = stand.fuel - 1; rows = firing.after }
+
+-- the box at which the run stands fires
+pub record IsFired (C : Signature) (boxes : List Box) (stand : Stand) (firing : Firing) : Type 0 where
+  pub box : slice_get boxes stand.place ≡ Some (rule firing.rule)
+  pub fuel : 0 < stand.fuel
+  pub place : firing.place ≡ stand.place
+  pub before : firing.before ≡ stand.rows
+  pub fires : Fires C firing
+
+-- a run ends at the exit, or at a rule's box without fuel; no box fails yet
+abbrev pub EndsAt : List Box → Stand → End → Type 0
+EndsAt boxes stand Done = slice_get boxes stand.place ≡ Some exit
+EndsAt boxes stand Failed = ⊥
+EndsAt boxes stand Spent = ((first : RuleLists) × (slice_get boxes stand.place ≡ Some (rule first))) × (stand.fuel ≡ 0)
+
+-- ---- the run
+
+-- the firings, in order, and where and how the run ends
+pub record Run : Type 0 where
+  pub firings : List Firing
+  pub last : Stand
+  pub end : End
+
+-- the firings lead from where the run stands to its end
+abbrev pub Leads : Signature → List Box → Stand → List Firing → Stand → End → Type 0
+Leads C boxes stand [] last end = (last ≡ stand) × EndsAt boxes stand end
+Leads C boxes stand (firing ∷ firings) last end = IsFired C boxes stand firing × Leads C boxes (stand_after stand firing) firings last end
+
+-- the run of a document with so much fuel, from its instance and its schedule's first box
+abbrev pub IsRun : DocumentLists → ℕ → Run → Type 0
+IsRun document fuel run =
+    Leads (signature_of document.schema) (default_schedule document.rules)
+    (record { place = 0; fuel = fuel; rows = document.table.rows }) run.firings run.last run.end

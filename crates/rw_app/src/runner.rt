@@ -1,0 +1,122 @@
+//! The run of a document.
+
+ghost use Rattle.std.specs.Prelude.{◌≡◌, ◌×◌, ◌++◌, IfOk, map, length};
+ghost use Rattle.rw_rule.specs.RuleLists.{RuleLists};
+ghost use Rattle.rw_doc.specs.Models.{document_lists, IsSound};
+ghost use Rattle.rw_print.specs.Lines.{line, end_data};
+ghost use Rattle.rw_app.specs.Answers.{IsAnswerTo, status_of_end as status_of_run};
+ghost use Rattle.rw_app.specs.AnswerTexts.{text_of_answer};
+ghost use Rattle.rw_app.specs.Commands.{run};
+ghost use Rattle.rw_app.specs.Kept.{lists_in};
+ghost use Rattle.rw_app.specs.RunTexts.{sizes_in};
+ghost use Rattle.rw_app.specs.Runners.{HasRun, IsWorld};
+ghost use Rattle.rw_app.specs.Runs.{Firing, IsRun, Run, Stand};
+
+use crate::answer::Answer;
+use crate::firing::{Fired, fire};
+use crate::world::{World, load};
+use crate::Status;
+use rw_doc::Document;
+use rw_print::{End, end_line};
+use rw_rule::Rule;
+use rw_schema::OutOfMemory;
+use std::alloc::Global;
+
+/// What a run gives: the lines of its firings, how it ended, the fuel that is left, and the last state.
+#[derive(Drop)]
+pub(crate) struct Ran {
+    pub(crate) text: Vec<u8>,
+    pub(crate) end: End,
+    pub(crate) fuel: u32,
+    pub(crate) world: World,
+}
+
+/// Runs the document's schedule with so much fuel. The text is held until the run has ended. The stack does not grow
+/// with the fuel.
+pub(crate) fn run_document(
+    alloc: Global,
+    document: &Document,
+    fuel: u32,
+) -> Result<Answer, OutOfMemory>
+    requires { IsSound (document_lists document.now) }
+    ensures { IfOk result (λ answer. (seed : ℕ) → IsAnswerTo (run fuel seed) (Ok (document_lists document.now)) (text_of_answer answer)) }
+{
+    let world = load(alloc, document)?;
+    let ran = match document.rules.first() {
+        Some(rule) => run_rule(alloc, document, rule, fuel, world)?,
+        None => Ran {
+            text: Vec::new(alloc),
+            end: End::Done,
+            fuel,
+            world,
+        },
+    };
+    finish(alloc, ran)
+}
+
+/// Fires the box of the first rule until nothing is applied, or no fuel is left.
+fn run_rule(
+    alloc: Global,
+    document: &Document,
+    rule: &Rule,
+    fuel: u32,
+    world: World,
+) -> Result<Ran, OutOfMemory>
+    requires sound { IsSound (document_lists document.now) }
+    requires rule { (others : List RuleLists) × (document.now.rules.items ≡ rule.now ∷ others) }
+    requires world { IsWorld (document_lists document.now) world }
+    ensures { IfOk result (λ ran. (firings : List Firing) × ((last : Stand) × HasRun (document_lists document.now) fuel world.table.rows ran firings last)) }
+{
+    let mut text = Vec::new(alloc);
+    let mut world = world;
+    let mut left = fuel;
+    while left > 0 {
+        let fired = fire(alloc, document, rule, world)?;
+        text.extend_from_slice(fired.line.as_slice())?;
+        left -= 1;
+        world = fired.world;
+        if !fired.applied {
+            return Ok(Ran {
+                text,
+                end: End::Done,
+                fuel: left,
+                world,
+            });
+        }
+    }
+    Ok(Ran {
+        text,
+        end: End::Spent,
+        fuel: 0,
+        world,
+    })
+}
+
+/// Puts the line of the end behind the lines of the firings.
+fn finish(alloc: Global, ran: Ran) -> Result<Answer, OutOfMemory>
+    ensures { IfOk result (λ answer. text_of_answer answer ≡ record {
+        status = status_of_run ran.end;
+        text = ran.text.items ++ line (end_data ran.end ran.fuel (map (λ list. length list.items) ran.world.lists.items) (sizes_in ran.world.table.rows));
+    }) }
+{
+    let lists = lengths_of(alloc, ran.world.lists.as_slice())?;
+    let sizes = sizes_of(alloc, &ran.world.table)?;
+    let line = end_line(alloc, ran.end, ran.fuel, &lists, &sizes)?;
+    let mut text = ran.text;
+    text.extend_from_slice(line.as_slice())?;
+    Ok(Answer {
+        status: status_of_end(ran.end),
+        text,
+    })
+}
+
+/// The status of a run's end.
+fn status_of_end(end: End) -> Status
+    ensures { result ≡ status_of_run end }
+{
+    match end {
+        End::Done => Status::Done,
+        End::Failed => Status::Failed,
+        End::Spent => Status::Spent,
+    }
+}

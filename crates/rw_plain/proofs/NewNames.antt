@@ -1,0 +1,139 @@
+-- The names of the parts of the right pattern are names after the step.
+use Rattle.std.proofs.Common.{◌≡◌, ◌==◌, ◌∙◌, ℕ, zero, suc, ◌+◌, ◌-◌, ◌<◌, Bool, true, false, not, List, ◌∷◌, ◌++◌, filter, length, map, option_map, position, Option, slice_get, slice_index, Some, None, refl, sym, ap, subst, zero-add, add-zero, arith, length-append}
+use Rattle.std.specs.List.{Contains, range_with_len}
+use Rattle.std.specs.Option.{is_some}
+use Rattle.std.proofs.lemmas.Bool.{not_from_false, le-ltb, lt-ltb}
+use Rattle.std.proofs.lemmas.List.Elements.{Contains-append_right, Contains-get_or, filter-append}
+use Rattle.std.proofs.lemmas.List.Quantifiers.{position-Some}
+use Rattle.std.proofs.lemmas.Option.{slice_get-map, get_or_from_slice_get}
+use Rattle.rw_schema.specs.declared.signature.ArrowEnds.{ArrowEnds}
+use Rattle.rw_schema.specs.RowLists.{RowLists, list_at}
+use Rattle.rw_schema.specs.Signature.{Signature, IsCategory}
+use Rattle.rw_spec.specs.Instance.{Instance, Has, instance_of}
+use Rattle.rw_spec.proofs.Signatures.{source_is}
+use Rattle.rw_table.specs.TableFaults.{table_fault}
+use Rattle.rw_table.proofs.Places.{place_found}
+use Rattle.rw_table.proofs.TableInstance.{table_functions}
+use Rattle.rw_pattern.specs.MapFaults.{image_of}
+use Rattle.rw_pattern.specs.PatternLists.{size_of, instance_of_pattern, map_of_tuple}
+use Rattle.rw_pattern.proofs.Maps.{is_map, images_long, natural_from_map}
+use Rattle.rw_pattern.proofs.PartNames.{part_below, has_part}
+use Rattle.rw_pattern.proofs.Sequences.{contained_in_filter}
+use Rattle.rw_pattern.proofs.Shapes.{is_pattern}
+use Rattle.rw_rule.specs.RuleFaults.{IsRuleOver}
+use Rattle.rw_rule.specs.RuleLists.{RuleLists}
+use Rattle.rw_plain.specs.PlainStep.{parts_of, is_image, new_parts, new_before, names_after, name_from, name_of_right, part_of_name, target_of, value_after}
+use Rattle.rw_plain.proofs.Ascents.{range_contains, range_bounds}
+use Rattle.rw_plain.proofs.NamesAfter.{name_below, kept_names, new_names, kept_there, kept_known}
+use Rattle.rw_plain.proofs.Parts.{value_part}
+use Rattle.rw_plain.proofs.PlainMatch.{IsPlainMatch, maps_known}
+use Rattle.rw_plain.proofs.Removed.{kept_stays, value_stays}
+
+-- a range is a range and the one behind it
+range_split : (start first later : ℕ) → range_with_len start (first + later) ≡ range_with_len start first ++ range_with_len (start + first) later
+range_split start zero later = rw (zero-add later, add-zero) refl
+range_split start (suc first) later =
+    let one_more : suc first + later ≡ suc (first + later) = omega arith in
+    let same : (start + 1) + first ≡ start + suc first = omega arith in
+    rw (one_more, range_split (start + 1) first later, same) refl
+
+-- below a number that passes a test, fewer numbers pass it than in a longer range
+passes_before : (p : ℕ → Bool) (part later : ℕ) → p part ≡ true
+    → length (filter p (range_with_len 0 part)) < length (filter p (range_with_len 0 (part + suc later)))
+passes_before p part later passes =
+    let before = range_with_len 0 part in
+    let behind = range_with_len (part + 1) later in
+    let split : range_with_len 0 (part + suc later) ≡ before ++ part ∷ behind = range_split 0 part (suc later) ∙ rw (zero-add part) refl in
+    let kept : filter p (range_with_len 0 (part + suc later)) ≡ filter p before ++ part ∷ filter p behind =
+    rw split (filter-append p before (part ∷ behind) ∙ rw passes refl) in
+    rw (kept, length-append (filter p before) (part ∷ filter p behind)) (omega arith)
+
+-- before a new part there are fewer new parts than in all
+new_before_fewer : (rule : RuleLists) (object part : ℕ) → part < size_of rule.right object → is_image rule.r object part ≡ false
+    → new_before rule object part < length (new_parts rule object)
+new_before_fewer rule object part there fresh =
+    let p : ℕ → Bool = λ part. not (is_image rule.r object part) in
+    let size = size_of rule.right object in
+    let later : ℕ = size - suc part in
+    let long : part + suc later ≡ size = omega arith in
+    subst (λ (size : ℕ). new_before rule object part < length (filter p (range_with_len 0 size))) long
+    (passes_before p part later (not_from_false (is_image rule.r object part) fresh))
+
+-- the name of the image of a kept part, or of a new part, is a name after the step
+name_from_there : (C : Signature) (rule : RuleLists) (tuple : List ℕ) (X : Instance) (next : List ℕ) (object part : ℕ) (place : Option ℕ) → IsRuleOver C rule → IsPlainMatch C rule tuple X
+    → object < C.objects → part < size_of rule.right object → position (λ image. image == part) (list_at rule.r object) ≡ place
+    → Contains (names_after rule tuple X next object) (name_from rule tuple next object part place)
+name_from_there C rule tuple X next object part None over match known there place_is =
+    let fresh : is_image rule.r object part ≡ false =
+    sym (place_found (λ image. image == part) (list_at rule.r object)) ∙ ap is_some place_is in
+    Contains-append_right (kept_names rule tuple X object) (new_names rule next object) (slice_index next object + new_before rule object part)
+    (range_contains (slice_index next object) (length (new_parts rule object)) (new_before rule object part) (new_before_fewer rule object part there fresh))
+name_from_there C rule tuple X next object part (Some kept) over match known there place_is =
+    let left = rule.goal.left in
+    let found = position-Some (λ image. image == part) (list_at rule.r object) kept 0 place_is in
+    let sized : object < length rule.keep.sizes = rw (is_pattern C rule.keep over.parts.keep).sizes_long known in
+    let long : length (list_at rule.r object) ≡ size_of rule.keep object =
+    images_long rule.keep rule.r object (is_map C rule.keep rule.right rule.r (maps_known C rule over).1).shape sized in
+    let kept_part : kept < size_of rule.keep object = rw (← long) found.0 in
+    let image : ℕ = image_of rule.l object kept in
+    let image_there : Has (instance_of_pattern left) object image =
+    (natural_from_map C rule.keep left rule.l (is_pattern C rule.keep over.parts.keep) (maps_known C rule over).0).parts object kept known (has_part rule.keep object kept kept_part) in
+    kept_there rule tuple X next object (map_of_tuple left tuple object image) (match.natural.parts object image known image_there)
+    (kept_stays C rule tuple X object kept over match known kept_part)
+
+-- the name of a part of the right pattern is a name after the step
+right_there : (C : Signature) (rule : RuleLists) (tuple : List ℕ) (X : Instance) (next : List ℕ) (object part : ℕ) → IsRuleOver C rule → IsPlainMatch C rule tuple X
+    → object < C.objects → part < size_of rule.right object → Contains (names_after rule tuple X next object) (name_of_right rule tuple next object part)
+right_there C rule tuple X next object part over match known there =
+    name_from_there C rule tuple X next object part (position (λ image. image == part) (list_at rule.r object)) over match known there refl
+
+-- the new part that has a name is a part of the right pattern
+new_part_there : (rule : RuleLists) (next : List ℕ) (object name : ℕ) → Contains (new_names rule next object) name
+    → part_of_name rule next object name < size_of rule.right object
+new_part_there rule next object name there =
+    let fresh = new_parts rule object in
+    let bounds = range_bounds (slice_index next object) (length fresh) name there in
+    let place : ℕ = name - slice_index next object in
+    let within : place < length fresh = omega (arith, bounds.0, bounds.1) in
+    part_below rule.right object (slice_index fresh place)
+    (contained_in_filter (λ part. not (is_image rule.r object part)) (parts_of rule.right object) (slice_index fresh place) (Contains-get_or fresh place 0 within)).0
+
+-- the target of an arrow is the target in its ends
+target_is : (C : Signature) (a : ℕ) (ends : ArrowEnds) → slice_get C.arrows a ≡ Some ends → target_of C a ≡ ends.target.0
+target_is C a ends there =
+    let target = λ (each : ArrowEnds). each.target.0 in
+    get_or_from_slice_get (map target C.arrows) a ends.target.0 0 (slice_get-map target C.arrows a ∙ ap (option_map target) there)
+
+-- where an arrow leads from a new name is a name after the step
+pub new_value_there : (C : Signature) (rule : RuleLists) (tuple : List ℕ) (X : Instance) (next : List ℕ) (a : ℕ) (ends : ArrowEnds) (name : ℕ) → IsCategory C
+    → IsRuleOver C rule → IsPlainMatch C rule tuple X → slice_get C.arrows a ≡ Some ends → Contains (new_names rule next ends.source.0) name
+    → Contains (names_after rule tuple X next ends.target.0) (value_after C rule tuple X next a name)
+new_value_there C rule tuple X next a ends name category over match there fresh =
+    let source = ends.source.0 in
+    let target = ends.target.0 in
+    let first : ℕ = slice_index next source in
+    let bounds = range_bounds first (length (new_parts rule source)) name fresh in
+    let part : ℕ = part_of_name rule next source name in
+    let image : ℕ = slice_index (list_at rule.right.rows a) part in
+    let image_there : image < size_of rule.right target =
+    value_part C rule.right a ends part over.parts.right there (new_part_there rule next source name fresh) in
+    let is : value_after C rule tuple X next a name ≡ name_of_right rule tuple next target image =
+    rw (source_is C a ends there, target_is C a ends there, le-ltb name first bounds.0) refl in
+    rw is (right_there C rule tuple X next target image over match (category.targets a ends there) image_there)
+
+-- where an arrow leads from a name that stays is a name after the step
+pub kept_value_there : (C : Signature) (rule : RuleLists) (tuple : List ℕ) (rows : RowLists) (a : ℕ) (ends : ArrowEnds) (name : ℕ) → IsCategory C
+    → table_fault C rows ≡ None → IsRuleOver C rule → IsPlainMatch C rule tuple (instance_of C rows) → slice_get C.arrows a ≡ Some ends
+    → Contains (kept_names rule tuple (instance_of C rows) ends.source.0) name
+    → Contains (names_after rule tuple (instance_of C rows) rows.next ends.target.0) (value_after C rule tuple (instance_of C rows) rows.next a name)
+kept_value_there C rule tuple rows a ends name category none over match there early =
+    let X = instance_of C rows in
+    let source = ends.source.0 in
+    let target = ends.target.0 in
+    let kept = kept_known rule tuple X source name early in
+    let below : name < slice_index rows.next source = name_below C rows source name none (category.sources a ends there) kept.0 in
+    let is : value_after C rule tuple X rows.next a name ≡ X.value a name =
+    rw (source_is C a ends there, lt-ltb name (slice_index rows.next source) below) refl in
+    rw is
+    (kept_there rule tuple X rows.next target (X.value a name) (table_functions C rows none a ends name there kept.0)
+    (value_stays C rule tuple X a ends name category over match there kept.0 kept.1))
