@@ -1,8 +1,16 @@
+pub mod ArrowValues
 pub mod Ascents
+pub mod Firsts
 pub mod Listed
 pub mod NamesAfter
 pub mod NewNames
+pub mod PartNames
 pub mod Parts
 pub mod PlainMatch
+pub mod Ranges
 pub mod Removed
+pub mod Room
+pub mod RuleParts
 pub mod Sound
+pub mod StepNames
+pub mod Tables

@@ -1,12 +1,16 @@
 //! The lists after the step.
 
-ghost use Rattle.std.specs.Prelude.{◌≡◌, IfOk, None, length, map, sum};
+ghost use Rattle.std.specs.Prelude.{◌≡◌, ◌≤◌, IfOk, true, None, Contains, length, map, sum};
 ghost use Rattle.std.specs.List.{range_with_len};
 ghost use Rattle.rw_schema.specs.First.{map_in};
 ghost use Rattle.rw_schema.specs.Presentation.{signature_of, ends_of_arrow};
+ghost use Rattle.rw_schema.specs.Signature.{IsCategory};
+ghost use Rattle.rw_pattern.specs.Matches.{matches};
+ghost use Rattle.rw_table.specs.TableFaults.{table_fault};
 ghost use Rattle.rw_table.specs.Tabled.{IsOver, instance_of_table};
+ghost use Rattle.rw_rule.specs.PlainRules.{is_plain};
 ghost use Rattle.rw_rule.specs.RuleFaults.{IsRuleOver};
-ghost use Rattle.rw_plain.specs.Obstructions.{too_large};
+ghost use Rattle.rw_plain.specs.Obstructions.{dangling, too_large};
 ghost use Rattle.rw_plain.specs.PlainStep.{names_after as names_after_step, next_after as next_after_step, value_after as value_after_step, rows_after as rows_after_step};
 ghost use Rattle.rw_plain.specs.RuleParts.{HasArrow};
 
@@ -19,7 +23,7 @@ use rw_schema::{ArrowDef, ArrowId, ObjectId, OutOfMemory, Rows, Schema};
 use rw_table::Table;
 use std::alloc::Global;
 
-/// The lists of the instance after the step.
+/// The lists of the instance after the step. No arrow dangles, so they are an instance.
 pub(crate) fn rows_after(
     alloc: Global,
     schema: &Schema,
@@ -29,14 +33,18 @@ pub(crate) fn rows_after(
 ) -> Result<Rows, OutOfMemory>
     requires table { IsOver schema.now table.now }
     requires rule { IsRuleOver (signature_of schema.now) rule.now }
-    requires tuple { length tuple.now ≡ sum rule.now.goal.left.sizes }
+    requires plain { is_plain rule.now ≡ true }
+    requires tuple { Contains (matches (signature_of schema.now) rule.now.goal.left rule.now.goal.monic (instance_of_table table.now)) tuple.now }
+    requires closed { dangling (signature_of schema.now) rule.now tuple.now (instance_of_table table.now) ≡ None }
     requires room { too_large rule.now table.now.rows.next ≡ None }
-    ensures { IfOk result (λ rows. rows ≡ rows_after_step (signature_of schema.now) rule.now tuple.now table.now.rows) }
+    ensures rows { IfOk result (λ rows. rows ≡ rows_after_step (signature_of schema.now) rule.now tuple.now table.now.rows) }
+    ensures sound { IfOk result (λ rows. table_fault (signature_of schema.now) rows ≡ None) }
 {
+    let next = all_next_after(alloc, schema, rule, table.rows())?;
     let names = all_names_after(alloc, schema, rule, table, tuple)?;
-    let next = all_next_after(alloc, schema, rule, table)?;
-    let arrows = all_rows_after(alloc, schema, rule, table, tuple, names.as_slice())?;
-    Ok(Rows::from_lists(names, arrows, next))
+    let arrows = schema.arrow_list();
+    let rows = all_rows_after(alloc, arrows, rule, table, tuple, names.as_slice())?;
+    Ok(Rows::from_lists(names, rows, next))
 }
 
 /// Of each object the names after the step.
@@ -50,6 +58,7 @@ fn all_names_after(
     requires table { IsOver schema.now table.now }
     requires rule { IsRuleOver (signature_of schema.now) rule.now }
     requires tuple { length tuple.now ≡ sum rule.now.goal.left.sizes }
+    requires sound { table_fault table.now.signature table.now.rows ≡ None }
     requires room { too_large rule.now table.now.rows.next ≡ None }
     ensures { IfOk result (λ names. map (λ list. list.items) names.items
         ≡ map (names_after_step rule.now tuple.now (instance_of_table table.now) table.now.rows.next) (range_with_len 0 (length schema.now.objects))) }
@@ -67,16 +76,16 @@ fn all_next_after(
     alloc: Global,
     schema: &Schema,
     rule: &Rule,
-    table: &Table,
+    rows: &Rows,
 ) -> Result<Vec<u32>, OutOfMemory>
-    requires table { IsOver schema.now table.now }
     requires rule { IsRuleOver (signature_of schema.now) rule.now }
-    requires room { too_large rule.now table.now.rows.next ≡ None }
-    ensures { IfOk result (λ next. next.items ≡ map (next_after_step rule.now table.now.rows.next) (range_with_len 0 (length schema.now.objects))) }
+    requires next { length rows.now.next ≡ length schema.now.objects }
+    requires room { too_large rule.now rows.now.next ≡ None }
+    ensures { IfOk result (λ next. next.items ≡ map (next_after_step rule.now rows.now.next) (range_with_len 0 (length schema.now.objects))) }
 {
     let mut next = Vec::new(alloc);
     for number in 0..schema.objects() {
-        next.push(next_after(rule, table, ObjectId(number as u16)))?;
+        next.push(next_after(rule, rows, ObjectId(number as u16)))?;
     }
     Ok(next)
 }
@@ -84,24 +93,27 @@ fn all_next_after(
 /// Of each arrow the row after the step. Of each object the names after the step are given.
 fn all_rows_after(
     alloc: Global,
-    schema: &Schema,
+    arrows: &[ArrowDef],
     rule: &Rule,
     table: &Table,
     tuple: &Tuple,
     names: &[Vec<u32>],
 ) -> Result<Vec<Vec<u32>>, OutOfMemory>
-    requires table { IsOver schema.now table.now }
-    requires rule { IsRuleOver (signature_of schema.now) rule.now }
+    requires few { length arrows.now ≤ 256 }
+    requires arrows { map ends_of_arrow arrows.now ≡ table.now.signature.arrows }
+    requires category { IsCategory table.now.signature }
+    requires rule { IsRuleOver table.now.signature rule.now }
     requires tuple { length tuple.now ≡ sum rule.now.goal.left.sizes }
+    requires sound { table_fault table.now.signature table.now.rows ≡ None }
     requires room { too_large rule.now table.now.rows.next ≡ None }
     requires names { map (λ list. list.items) names.now
-        ≡ map (names_after_step rule.now tuple.now (instance_of_table table.now) table.now.rows.next) (range_with_len 0 (length schema.now.objects)) }
+        ≡ map (names_after_step rule.now tuple.now (instance_of_table table.now) table.now.rows.next) (range_with_len 0 table.now.signature.objects) }
     ensures { IfOk result (λ rows. map (λ list. list.items) rows.items
-        ≡ map_in (λ arrow ends. map (value_after_step (signature_of schema.now) rule.now tuple.now (instance_of_table table.now) table.now.rows.next arrow)
-        (names_after_step rule.now tuple.now (instance_of_table table.now) table.now.rows.next ends.source.0)) 0 (map ends_of_arrow schema.now.arrows)) }
+        ≡ map_in (λ arrow ends. map (value_after_step table.now.signature rule.now tuple.now (instance_of_table table.now) table.now.rows.next arrow)
+        (names_after_step rule.now tuple.now (instance_of_table table.now) table.now.rows.next ends.source.0)) 0 (map ends_of_arrow arrows.now)) }
 {
     let mut rows = Vec::new(alloc);
-    for (number, ends) in schema.arrow_list().iter().enumerate() {
+    for (number, ends) in arrows.iter().enumerate() {
         let arrow = ArrowId(number as u16);
         let names = names[ends.source.0 as usize].as_slice();
         rows.push(row_after(alloc, rule, table, tuple, arrow, ends, names)?)?;
@@ -121,6 +133,7 @@ fn row_after(
 ) -> Result<Vec<u32>, OutOfMemory>
     requires arrow { HasArrow table.now.signature rule.now arrow.0 (ends_of_arrow ends.now) }
     requires tuple { length tuple.now ≡ sum rule.now.goal.left.sizes }
+    requires sound { table_fault table.now.signature table.now.rows ≡ None }
     requires room { too_large rule.now table.now.rows.next ≡ None }
     requires names { names.now ≡ names_after_step rule.now tuple.now (instance_of_table table.now) table.now.rows.next ends.now.source.0 }
     ensures { IfOk result (λ row. row.items ≡ map (value_after_step table.now.signature rule.now tuple.now (instance_of_table table.now) table.now.rows.next arrow.0) names.now) }

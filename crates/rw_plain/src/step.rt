@@ -41,7 +41,7 @@ pub fn try_match(
     if let Some(refusal) = first_dangling(schema, rule, table, tuple) {
         return Ok(Verdict::Refused(refusal));
     }
-    if let Some(refusal) = first_too_large(schema, rule, table) {
+    if let Some(refusal) = first_too_large(schema, rule, table.rows()) {
         return Ok(Verdict::Refused(refusal));
     }
     let rows = rows_after(alloc, schema, rule, table, tuple)?;
