@@ -1,5 +1,5 @@
 -- The rules that are read are over the schema, and their steps are built so far.
-use Rattle.std.proofs.Common.{◌≡◌, true, Option, Some, None, Ok, List, [], ◌∷◌, codes, subst}
+use Rattle.std.proofs.Common.{◌≡◌, true, Option, Some, None, Ok, List, [], codes, subst}
 use Rattle.std.specs.List.{All}
 use Rattle.std.proofs.lemmas.List.Elements.{All-nil}
 use Rattle.serde_json.specs.Data.{Data}
