@@ -1,11 +1,14 @@
--- A document, and what it says.
-use Rattle.std.proofs.Common.{◌≡◌, ℕ, Ok, Err, List, [], ◌∷◌, codes, refl}
+-- A document and its rules, and what they say.
+use Rattle.std.proofs.Common.{◌≡◌, ℕ, Bool, true, false, Ok, Err, List, [], ◌∷◌, codes, refl}
 use Rattle.serde_json.specs.Data.{Data, number, unsigned, string, array, object, no_members, member}
 use Rattle.serde_json.specs.View.{items_of}
 use Rattle.rw_schema.specs.Presentation.{Presentation, signature_of}
 use Rattle.rw_schema.specs.RowLists.{RowLists}
+use Rattle.rw_pattern.specs.PatternLists.{PatternLists}
+use Rattle.rw_rule.specs.declared.kind.RuleKind.TheVariants.{Dpo}
+use Rattle.rw_rule.specs.RuleLists.{RuleLists}
 use Rattle.rw_doc.specs.Models.{DocumentLists}
-use Rattle.rw_doc.specs.Documents.{not_built, presentation, pattern_lists, read_value}
+use Rattle.rw_doc.specs.Documents.{not_built, presentation, pattern_lists, read_rule, read_value}
 
 abbrev pub list : List Data → Data
 list values = array (items_of values)
@@ -25,10 +28,20 @@ abbrev pub edge : ℕ → ℕ → Data
 edge source target = object (member (codes "parts") (list (count 2 ∷ count 1 ∷ []))
     (member (codes "rows") (list (list (count source ∷ []) ∷ list (count target ∷ []) ∷ [])) no_members))
 
+-- so many vertices, without an edge
+abbrev pub vertices : ℕ → Data
+vertices n = object (member (codes "parts") (list (count n ∷ count 0 ∷ [])) (member (codes "rows") (list (list [] ∷ list [] ∷ [])) no_members))
+
 -- a graph with an edge from its second vertex to its first, and one watch
 abbrev pub document : ℕ → Data
 document format = object (member (codes "format") (count format) (member (codes "instance") (edge 1 0) (member (codes "schema") graphs
     (member (codes "watches") (list (object (member (codes "name") (string (codes "edge")) (member (codes "pattern") (edge 0 1) no_members)) ∷ [])) no_members))))
+
+-- so many vertices are matched, and removed; the vertices are monic where they are listed
+abbrev pub removal : ℕ → List Data → Data
+removal n listed = object (member (codes "keep") (vertices 0) (member (codes "kind") (string (codes "dpo"))
+    (member (codes "l") (list (list [] ∷ list [] ∷ [])) (member (codes "left") (vertices n) (member (codes "monic") (list listed)
+    (member (codes "name") (string (codes "remove")) (member (codes "r") (list (list [] ∷ list [] ∷ [])) (member (codes "right") (vertices 0) no_members))))))))
 
 abbrev pub graph_schema : Presentation
 graph_schema = presentation (codes "V" ∷ codes "E" ∷ [])
@@ -47,13 +60,41 @@ abbrev pub graph_lists : DocumentLists
 graph_lists = record {
   schema = graph_schema;
   table = record { signature = signature_of graph_schema; rows = graph_rows };
-  watches = record { name = codes "edge"; pattern = pattern_lists (2 ∷ 1 ∷ []) ((0 ∷ []) ∷ (1 ∷ []) ∷ []) } ∷ [];
+  rules = [];
+  watches = record { name = codes "edge"; goal = record { left = pattern_lists (2 ∷ 1 ∷ []) ((0 ∷ []) ∷ (1 ∷ []) ∷ []); monic = false ∷ false ∷ [] } } ∷ [];
+}
+
+-- so many vertices, as lists
+abbrev pub vertex_lists : ℕ → PatternLists
+vertex_lists n = pattern_lists (n ∷ 0 ∷ []) ([] ∷ [] ∷ [])
+
+abbrev pub removal_lists : ℕ → Bool → RuleLists
+removal_lists n monic = record {
+  name = codes "remove";
+  kind = Dpo;
+  goal = record { left = vertex_lists n; monic = monic ∷ false ∷ [] };
+  keep = vertex_lists 0;
+  right = vertex_lists 0;
+  l = [] ∷ [] ∷ [];
+  r = [] ∷ [] ∷ [];
 }
 
 -- the graph is read as it is written
-pub reads_a_graph : read_value (document 1) ≡ Ok graph_lists
+reads_a_graph : read_value (document 1) ≡ Ok graph_lists
 reads_a_graph = refl
 
 -- another format is not read
-pub refuses_format_2 : read_value (document 2) ≡ Err not_built
+refuses_format_2 : read_value (document 2) ≡ Err not_built
 refuses_format_2 = refl
+
+-- the rule that removes a vertex is read as it is written
+reads_a_rule : read_rule graph_schema (removal 1 []) ≡ Ok (removal_lists 1 false)
+reads_a_rule = refl
+
+-- a rule that may remove one vertex twice is not read
+refuses_two_vertices : read_rule graph_schema (removal 2 []) ≡ Err not_built
+refuses_two_vertices = refl
+
+-- the rule that removes two different vertices is
+reads_monic_vertices : read_rule graph_schema (removal 2 (string (codes "V") ∷ [])) ≡ Ok (removal_lists 2 true)
+reads_monic_vertices = refl

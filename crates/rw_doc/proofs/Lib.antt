@@ -1,3 +1,7 @@
+pub mod Chains
 pub mod Examples
 pub mod Readings
-pub mod Sound
+pub mod SoundPatterns
+pub mod SoundRules
+pub mod SoundTable
+pub mod SoundWatches

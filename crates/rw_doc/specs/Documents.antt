@@ -195,9 +195,13 @@ abbrev pub read_goal : Presentation → Data → Result GoalLists DocFault
 read_goal schema value = and_then (pattern_at (signature_of schema) (codes "left") value) (λ left.
     and_then (read_monic schema.objects value) (λ monic. Ok (record { left = left; monic = monic })))
 
+-- the rule itself, where its steps are built so far
+abbrev pub plain_rule : RuleLists → Result RuleLists DocFault
+plain_rule rule = passes not_built (is_plain rule) rule
+
 -- the rule of the lists, where they are one that is built so far
 abbrev pub rule_of : Signature → RuleLists → Result RuleLists DocFault
-rule_of C rule = and_then (sound not_built (rule_fault C rule) rule) (λ rule. passes not_built (is_plain rule) rule)
+rule_of C rule = and_then (sound not_built (rule_fault C rule) rule) plain_rule
 
 abbrev pub read_rule : Presentation → Data → Result RuleLists DocFault
 read_rule schema value = and_then (with_keys rule_keys value) (λ value. and_then (read_name value) (λ name. and_then (read_kind value) (λ kind.

@@ -1,4 +1,4 @@
-//! Documents: schemas, instances and patterns that are read from JSON.
+//! Documents: schemas, instances, rules and watches that are read from JSON.
 #![tactic(auto)]
 
 mod document;
@@ -6,7 +6,11 @@ mod end;
 mod fault;
 mod instance;
 mod json;
+mod monic;
+mod names;
+mod patterns;
 mod read;
+mod rules;
 mod schema;
 #[cfg(test)]
 mod tests;

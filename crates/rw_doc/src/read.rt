@@ -10,6 +10,7 @@ ghost use Rattle.rw_doc.specs.Models.{IsSound, document_lists};
 
 use crate::instance::instance_or_none;
 use crate::json::{NOT_BUILT, needed, read_count, with_keys};
+use crate::rules::rules_or_none;
 use crate::schema::read_schema;
 use crate::watches::watches_or_none;
 use crate::{DocFault, Document, ReadDocEnd};
@@ -48,15 +49,17 @@ fn read_value(alloc: Global, value: &Value) -> Result<Document, ReadDocEnd>
     ensures gives { Gives document_lists result (spec.read_value (view value.now)) }
     ensures sound { IfOk result (λ document. IsSound (document_lists document)) }
 {
-    with_keys(&["format", "instance", "schema", "watches"], value)?;
+    with_keys(&["format", "instance", "rules", "schema", "watches"], value)?;
     with_format(value)?;
     let schema = needed("schema", value)?;
     let schema = read_schema(alloc, schema)?;
     let table = instance_or_none(alloc, &schema, value.get("instance"))?;
-    let watches = watches_or_none(alloc, &schema, value.get("watches"))?;
+    let rules = rules_or_none(alloc, &schema, value.get("rules"))?;
+    let watches = watches_or_none(alloc, &schema, rules.as_slice(), value.get("watches"))?;
     Ok(Document {
         schema,
         table,
+        rules,
         watches,
     })
 }
@@ -88,7 +91,7 @@ fn read_json(alloc: Global, bytes: &[u8]) -> Result<Value, ReadDocEnd>
 }
 
 /// The document that the bytes are, or its first fault: the sections are read in the order schema, instance,
-/// watches.
+/// rules, watches.
 ///
 /// Bytes that are no JSON text are refused with code 1, and a value that is no document of the form that is
 /// read so far with code 16; want of memory may end a reading at any bytes. The time and the memory are linear

@@ -33,13 +33,18 @@ fn whole(code: u8) -> Option<DocFault> {
 }
 
 #[test]
-fn reads_a_graph(rt: HostRuntime) -> Result<(), Fail> {
+fn reads_a_schema(rt: HostRuntime) -> Result<(), Fail> {
     let document = read_document(rt.alloc(), GRAPH.as_bytes())?;
-    assert_eq!(rt; document.schema.objects(), 2);
-    assert_eq!(rt; document.schema.arrows(), 2);
+    assert!(rt; document.schema.objects() == 2 && document.schema.arrows() == 2);
     assert!(rt; document.schema.object(E).as_str() == "E");
     let target = document.schema.arrow(TGT);
     assert!(rt; target.name.as_str() == "tgt" && target.source == E && target.target == V);
+    Ok(())
+}
+
+#[test]
+fn reads_an_instance(rt: HostRuntime) -> Result<(), Fail> {
+    let document = read_document(rt.alloc(), GRAPH.as_bytes())?;
     let rows = document.table.rows();
     assert_eq!(rt; rows.name_lists(), 2);
     assert_eq!(rt; rows.row_lists(), 2);
@@ -47,9 +52,16 @@ fn reads_a_graph(rt: HostRuntime) -> Result<(), Fail> {
     assert!(rt; rows.names(V) == [0u32, 1].as_slice() && rows.names(E) == [0u32].as_slice());
     assert!(rt; rows.row(SRC) == [1u32].as_slice() && rows.row(TGT) == [0u32].as_slice());
     assert!(rt; rows.next(V) == 2 && rows.next(E) == 1);
+    Ok(())
+}
+
+#[test]
+fn reads_a_watch(rt: HostRuntime) -> Result<(), Fail> {
+    let document = read_document(rt.alloc(), GRAPH.as_bytes())?;
     assert_eq!(rt; document.watches.len(), 1);
     let watch = &document.watches[0];
-    assert!(rt; watch.name.as_str() == "edge" && watch.pattern.len() == 3);
+    assert!(rt; watch.name.as_str() == "edge" && watch.goal.left.len() == 3);
+    assert!(rt; watch.goal.monic.as_slice() == [false, false].as_slice());
     Ok(())
 }
 
@@ -63,7 +75,7 @@ fn reads_no_instance(rt: HostRuntime) -> Result<(), Fail> {
     assert_eq!(rt; rows.row_lists(), 2);
     assert_eq!(rt; rows.next_names(), 2);
     assert!(rt; rows.names(V).is_empty() && rows.row(TGT).is_empty() && rows.next(E) == 0);
-    assert!(rt; document.watches.is_empty());
+    assert!(rt; document.rules.is_empty() && document.watches.is_empty());
     Ok(())
 }
 
@@ -74,7 +86,7 @@ fn refuses(rt: HostRuntime) -> Result<(), Fail> {
     for (text, code) in [
         ("{\"format\": 1, \"schema\": {\"obj", 1),
         (
-            "{\"format\": 1, \"schema\": {\"objects\": [], \"arrows\": []}, \"rules\": []}",
+            "{\"format\": 1, \"schema\": {\"objects\": [], \"arrows\": []}, \"other\": []}",
             16,
         ),
         (
@@ -103,6 +115,110 @@ fn refuses(rt: HostRuntime) -> Result<(), Fail> {
         ),
     ] {
         assert!(rt; refusal(alloc, text.as_bytes()) == whole(code), "at {text}");
+    }
+    Ok(())
+}
+
+/// A document over sets, with these members beside its schema.
+fn over_sets(alloc: Global, members: &str) -> Result<String, Fail> {
+    let text = format!(in alloc;
+        "{{\"format\": 1, \"schema\": {{\"objects\": [\"V\"], \"arrows\": []}}, {members}}}"
+    )?;
+    Ok(text)
+}
+
+/// A rule of sets of so many elements, with these maps between them and these members.
+fn rule(
+    alloc: Global,
+    [left, keep, right]: [u32; 3],
+    [l, r]: [&str; 2],
+    members: &str,
+) -> Result<String, Fail> {
+    let sets = format!(in alloc;
+        "\"left\": {{\"parts\": [{left}], \"rows\": []}}, \"keep\": {{\"parts\": [{keep}], \"rows\": []}}, \"right\": {{\"parts\": [{right}], \"rows\": []}}"
+    )?;
+    let text = format!(in alloc;
+        "{{\"name\": \"v\", {sets}, \"l\": [{l}], \"r\": [{r}], {members}}}"
+    )?;
+    Ok(text)
+}
+
+/// A document whose one rule removes an element, and adds two.
+fn with_rule(alloc: Global) -> Result<String, Fail> {
+    let rule = rule(alloc, [1, 0, 2], ["[]", "[]"], "\"kind\": \"dpo\"")?;
+    let members = format!(in alloc; "\"rules\": [{rule}]")?;
+    over_sets(alloc, members.as_str())
+}
+
+#[test]
+fn reads_a_rule(rt: HostRuntime) -> Result<(), Fail> {
+    let alloc = rt.alloc();
+    let text = with_rule(alloc)?;
+    let document = read_document(alloc, text.as_bytes())?;
+    assert_eq!(rt; document.rules.len(), 1);
+    let rule = &document.rules[0];
+    assert!(rt; rule.name().as_str() == "v" && rule.goal().left.len() == 1);
+    assert!(rt; rule.keep().len() == 0 && rule.right().len() == 2);
+    Ok(())
+}
+
+#[test]
+fn refuses_rules(rt: HostRuntime) -> Result<(), Fail> {
+    let alloc = rt.alloc();
+    let dpo = "\"kind\": \"dpo\"";
+    let monic = "\"kind\": \"dpo\", \"monic\": [\"V\"]";
+    for (sets, maps, members, want) in [
+        ([1, 0, 0], ["[]", "[]"], "\"kind\": \"spo\"", whole(16)),
+        ([1, 0, 0], ["[]", "[]"], "\"kind\": \"copy\"", whole(16)),
+        (
+            [1, 0, 0],
+            ["[]", "[]"],
+            "\"kind\": \"dpo\", \"conditions\": []",
+            whole(16),
+        ),
+        (
+            [1, 0, 0],
+            ["[]", "[]"],
+            "\"kind\": \"dpo\", \"monic\": [\"W\"]",
+            whole(16),
+        ),
+        ([1, 0, 0], ["[], []", "[]"], dpo, whole(16)),
+        ([2, 0, 0], ["[]", "[]"], dpo, whole(16)),
+        ([2, 0, 0], ["[]", "[]"], monic, None),
+        ([1, 2, 2], ["[0, 0]", "[0, 1]"], dpo, whole(16)),
+        ([2, 2, 1], ["[0, 1]", "[0, 0]"], monic, whole(16)),
+        ([2, 2, 2], ["[0, 1]", "[1, 0]"], monic, None),
+    ] {
+        let rule = rule(alloc, sets, maps, members)?;
+        let members = format!(in alloc; "\"rules\": [{rule}]")?;
+        let text = over_sets(alloc, members.as_str())?;
+        assert!(rt; refusal(alloc, text.as_bytes()) == want, "at {text}");
+    }
+    Ok(())
+}
+
+#[test]
+fn refuses_a_name_twice(rt: HostRuntime) -> Result<(), Fail> {
+    let alloc = rt.alloc();
+    let rule = rule(alloc, [1, 0, 0], ["[]", "[]"], "\"kind\": \"dpo\"")?;
+    let pattern = "\"pattern\": {\"parts\": [1], \"rows\": []}";
+    for (members, want) in [
+        (format!(in alloc; "\"rules\": [{rule}, {rule}]")?, whole(16)),
+        (
+            format!(in alloc;
+                "\"rules\": [{rule}], \"watches\": [{{\"name\": \"v\", {pattern}}}]"
+            )?,
+            whole(16),
+        ),
+        (
+            format!(in alloc;
+                "\"rules\": [{rule}], \"watches\": [{{\"name\": \"w\", {pattern}}}]"
+            )?,
+            None,
+        ),
+    ] {
+        let text = over_sets(alloc, members.as_str())?;
+        assert!(rt; refusal(alloc, text.as_bytes()) == want, "at {text}");
     }
     Ok(())
 }

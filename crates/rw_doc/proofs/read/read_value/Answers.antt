@@ -1,14 +1,27 @@
--- The instance and the watches are read over the schema.
-use Rattle.std.proofs.Common.{option_map}
+-- The instance, the rules and the watches are read over the schema.
+use Rattle.std.proofs.Common.{◌≡◌, true, map, option_map}
+use Rattle.std.specs.List.{All}
+use Rattle.std.proofs.lemmas.List.Elements.{All-weaker}
 use Rattle.serde_json.specs.View.{view}
 use Rattle.rw_schema.specs.Presentation.{signature_of}
-use Rattle.rw_doc.proofs.Sound.{any_instance_over, any_watches_over}
+use Rattle.rw_rule.specs.PlainRules.{is_plain}
+use Rattle.rw_rule.specs.RuleFaults.{IsRuleOver}
+use Rattle.rw_rule.specs.RuleLists.{RuleLists}
+use Rattle.rw_rule.specs.RuleParts.{lists_of_watch}
+use Rattle.rw_doc.proofs.SoundRules.{IsBuilt, any_rules_read}
+use Rattle.rw_doc.proofs.SoundTable.{any_instance_over}
+use Rattle.rw_doc.proofs.SoundWatches.{any_watches_over}
 use Rattle.rw_doc.proofs.read.read_value.Goals as goal
 
 pub returns-clause-sound : goal.returns-clause-sound
 returns-clause-sound c =
-    let C = signature_of c.in_ok-schema-2.schema in
+    let schema = c.in_ok-schema-2.schema in
+    let C = signature_of schema in
+    let rules = c.in_ok-rules.rules.items in
+    let built : All (IsBuilt C) rules = any_rules_read schema (option_map (λ value. view value.now) c.get-2.result) rules c.in_ok-rules.ensures in
     record {
       table = any_instance_over C (option_map (λ value. view value.now) c.get.result) c.in_ok-table.table c.in_ok-table.ensures;
-      patterns = any_watches_over C (option_map (λ value. view value.now) c.get-2.result) c.in_ok-watches.watches.items c.in_ok-watches.ensures;
+      rules = All-weaker (IsBuilt C) (IsRuleOver C) (λ rule is. is.over) rules built;
+      plain = All-weaker (IsBuilt C) (λ (rule : RuleLists). is_plain rule ≡ true) (λ rule is. is.plain) rules built;
+      watches = any_watches_over schema c.as_slice.result.now (option_map (λ value. view value.now) c.get-3.result) (map lists_of_watch c.in_ok-watches.watches.items) c.in_ok-watches.ensures;
     }
