@@ -1,2 +1,3 @@
+pub mod AnswerStatuses
 pub mod Complete
 pub mod Found
