@@ -2,7 +2,6 @@
 use Rattle.std.proofs.Common.{◌≡◌, ℕ, ◌-◌, ◌<◌, ◌≤◌, List, length, slice_index, sym, ap, ◌∙◌, arith}
 use Rattle.rw_schema.specs.Presentation.{ends_of_arrow}
 use Rattle.rw_schema.specs.RowLists.{RowLists, list_at}
-use Rattle.rw_pattern.specs.PatternLists.{size_of}
 use Rattle.rw_rule.specs.RuleLists.{RuleLists}
 use Rattle.rw_table.specs.Tabled.{Tabled, instance_of_table}
 use Rattle.rw_plain.specs.PlainStep.{new_parts, name_of_right}
