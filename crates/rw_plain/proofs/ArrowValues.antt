@@ -1,21 +1,22 @@
 -- The values of arrows before the step and after it.
-use Rattle.std.proofs.Common.{◌≡◌, ◌==◌, ℕ, ◌+◌, ◌-◌, ◌<◌, ◌≤◌, Bool, true, false, cond, inl, inr, if◌then◌else◌, nat_lt, not, filter, Option, Some, None, All, List, length, map, slice_get, slice_index, refl, sym, ap, ◌∙◌, zero-add, option_map}
-use Rattle.std.specs.List.{list_any, range_with_len}
+use Rattle.std.proofs.Common.{◌≡◌, ◌==◌, ℕ, ◌<◌, ◌≤◌, inl, inr, not, Some, List, length, map, slice_get, slice_index, refl, sym, ap, ◌∙◌, option_map}
+use Rattle.std.specs.List.{list_any}
 use Rattle.std.specs.Option.{unwrap_or}
-use Rattle.std.proofs.lemmas.Bool.{cases_Bool, both_ways, cond-true, cond-false, lt-ltb, le-ltb}
-use Rattle.std.proofs.lemmas.List.Elements.{All-filter, All-get_or}
+use Rattle.std.proofs.lemmas.Bool.{cases_Bool, both_ways, lt-ltb, le-ltb}
+use Rattle.std.proofs.lemmas.List.Elements.{Contains-get_or}
 use Rattle.std.proofs.lemmas.Option.{slice_get-map, get_or_from_slice_get}
 use Rattle.rw_schema.specs.declared.signature.ArrowEnds.{ArrowEnds}
-use Rattle.rw_schema.specs.RowLists.{RowLists, list_at}
+use Rattle.rw_schema.specs.RowLists.{list_at}
 use Rattle.rw_schema.specs.Signature.{Signature, source_of}
-use Rattle.rw_spec.specs.Instance.{Instance, look}
+use Rattle.rw_spec.specs.Instance.{Instance}
 use Rattle.rw_spec.proofs.Look.{found_contained, look_missing}
 use Rattle.rw_spec.proofs.Signatures.{source_is}
 use Rattle.rw_table.specs.Tabled.{Tabled, instance_of_table, value_at}
 use Rattle.rw_pattern.specs.PatternLists.{size_of}
+use Rattle.rw_pattern.proofs.PartNames.{part_below}
+use Rattle.rw_pattern.proofs.Sequences.{contained_in_filter}
 use Rattle.rw_rule.specs.RuleLists.{RuleLists}
-use Rattle.rw_plain.specs.PlainStep.{is_image, target_of, new_parts, name_of_right, part_of_name, value_after}
-use Rattle.rw_plain.proofs.Ranges.{range_below}
+use Rattle.rw_plain.specs.PlainStep.{is_image, parts_of, target_of, new_parts, name_of_right, part_of_name, value_after}
 
 -- the target of an arrow is the target in its ends
 target_is : (C : Signature) (arrow : ℕ) (ends : ArrowEnds) → slice_get C.arrows arrow ≡ Some ends → target_of C arrow ≡ ends.target.0
@@ -37,29 +38,19 @@ value_or_zero table arrow name =
 -- a new part is a part of R
 pub new_part_within : (rule : RuleLists) (object place : ℕ) → place < length (new_parts rule object) → slice_index (new_parts rule object) place < size_of rule.right object
 new_part_within rule object place within =
-    let size : ℕ = size_of rule.right object in
-    let below : slice_index (new_parts rule object) place < 0 + size =
-    All-get_or (λ part. part < 0 + size) (new_parts rule object) place 0 within
-    (All-filter (λ part. not (is_image rule.r object part)) (λ part. part < 0 + size) (range_with_len 0 size) (range_below 0 size)) in
-    rw zero-add at below
+    let fresh : List ℕ = new_parts rule object in
+    part_below rule.right object (slice_index fresh place)
+    (contained_in_filter (λ part. not (is_image rule.r object part)) (parts_of rule.right object) (slice_index fresh place) (Contains-get_or fresh place 0 within)).0
 
 -- at an earlier name the value stays
 pub value_at_earlier : (C : Signature) (rule : RuleLists) (tuple : List ℕ) (X : Instance) (next : List ℕ) (arrow : ℕ) (ends : ArrowEnds) (name : ℕ)
     → slice_get C.arrows arrow ≡ Some ends → name < slice_index next ends.source.0 → value_after C rule tuple X next arrow name ≡ X.value arrow name
 value_at_earlier C rule tuple X next arrow ends name there before =
-    let first : ℕ = slice_index next (source_of C arrow) in
-    let earlier : name < first = rw (source_is C arrow ends there) before in
-    let of_right : ℕ = name_of_right rule tuple next (target_of C arrow) (slice_index (list_at rule.right.rows arrow) (part_of_name rule next (source_of C arrow) name)) in
-    cond-true (nat_lt name first) (X.value arrow name) of_right (lt-ltb name first earlier)
+    rw (source_is C arrow ends there, lt-ltb name (slice_index next ends.source.0) before) refl
 
 -- at a new part's name the value is that of its row in R
 pub value_at_new : (C : Signature) (rule : RuleLists) (tuple : List ℕ) (X : Instance) (next : List ℕ) (arrow : ℕ) (ends : ArrowEnds) (name : ℕ)
     → slice_get C.arrows arrow ≡ Some ends → slice_index next ends.source.0 ≤ name → value_after C rule tuple X next arrow name
     ≡ name_of_right rule tuple next ends.target.0 (slice_index (list_at rule.right.rows arrow) (part_of_name rule next ends.source.0 name))
 value_at_new C rule tuple X next arrow ends name there after =
-    let of_right : ℕ → ℕ → ℕ = λ source target. name_of_right rule tuple next target (slice_index (list_at rule.right.rows arrow) (part_of_name rule next source name)) in
-    let first : ℕ = slice_index next (source_of C arrow) in
-    let later : first ≤ name = rw (source_is C arrow ends there) after in
-    cond-false (nat_lt name first) (X.value arrow name) (of_right (source_of C arrow) (target_of C arrow)) (le-ltb name first later)
-    ∙ ap (λ (source : ℕ). of_right source (target_of C arrow)) (source_is C arrow ends there)
-    ∙ ap (of_right ends.source.0) (target_is C arrow ends there)
+    rw (source_is C arrow ends there, target_is C arrow ends there, le-ltb name (slice_index next ends.source.0) after) refl

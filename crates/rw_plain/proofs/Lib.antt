@@ -12,5 +12,4 @@ pub mod Removed
 pub mod Room
 pub mod RuleParts
 pub mod Sound
-pub mod StepNames
 pub mod Tables

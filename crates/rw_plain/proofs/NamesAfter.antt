@@ -1,8 +1,9 @@
 -- The names after a step ascend, below the next names after it.
-use Rattle.std.proofs.Common.{◌≡◌, ℕ, ◌+◌, ◌<◌, true, false, not, nat_lt, List, ◌++◌, filter, length, slice_index, Option, None, zero-add, inl, inr, arith}
+use Rattle.std.proofs.Common.{◌≡◌, ℕ, ◌+◌, ◌<◌, true, false, not, nat_lt, All, List, ◌++◌, filter, length, slice_index, Option, None, zero-add, inl, inr, arith}
 use Rattle.std.specs.List.{Contains, list_all, range_with_len}
 use Rattle.std.proofs.lemmas.Bool.{and_parts, and_from, not_from_false, not-true, ltb-true, lt-ltb}
-use Rattle.std.proofs.lemmas.List.Elements.{Contains-append_left, Contains-append_cases}
+use Rattle.std.proofs.lemmas.List.Elements.{All-weaker, Contains-append_left, Contains-append_cases}
+use Rattle.std.proofs.lemmas.List.Sums.{AllPass-from_list_all}
 use Rattle.rw_schema.specs.First.{fault_unless}
 use Rattle.rw_schema.specs.RowLists.{RowLists, list_at}
 use Rattle.rw_schema.specs.Signature.{Signature}
@@ -85,3 +86,14 @@ names_ascend_after C rule tuple rows object none known =
       | inr late ↦ lt-ltb name (next + count) (range_bounds next count name late).1
     ]) in
     and_from (ascends (kept ++ made)) (list_all (λ name. nat_lt name (next + count)) (kept ++ made)) ascending below
+
+-- the names after a step are below the next name after it
+pub names_below_after : (C : Signature) (rule : RuleLists) (tuple : List ℕ) (rows : RowLists) (object : ℕ) → table_fault C rows ≡ None → object < C.objects
+    → All (λ name. name < next_after rule rows.next object) (names_after rule tuple (instance_of C rows) rows.next object)
+names_below_after C rule tuple rows object none known =
+    let names : List ℕ = names_after rule tuple (instance_of C rows) rows.next object in
+    let next : ℕ = next_after rule rows.next object in
+    let below : list_all (λ name. nat_lt name next) names ≡ true =
+    (and_parts (ascends names) (list_all (λ name. nat_lt name next) names) (names_ascend_after C rule tuple rows object none known)).1 in
+    All-weaker (λ name. nat_lt name next ≡ true) (λ name. name < next) (λ name less. ltb-true name next less) names
+    (AllPass-from_list_all (λ name. nat_lt name next) names below)

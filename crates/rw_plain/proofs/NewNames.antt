@@ -1,41 +1,32 @@
 -- The names of the parts of the right pattern are names after the step.
-use Rattle.std.proofs.Common.{◌≡◌, ◌==◌, ◌∙◌, ℕ, zero, suc, ◌+◌, ◌-◌, ◌<◌, Bool, true, false, not, List, ◌∷◌, ◌++◌, filter, length, map, option_map, position, Option, slice_get, slice_index, Some, None, refl, sym, ap, subst, zero-add, add-zero, arith, length-append}
+use Rattle.std.proofs.Common.{◌≡◌, ◌==◌, ◌∙◌, ℕ, suc, ◌+◌, ◌-◌, ◌<◌, Bool, true, false, not, List, ◌∷◌, ◌++◌, filter, length, position, Option, slice_get, slice_index, Some, None, refl, sym, ap, subst, zero-add, arith, length-append}
 use Rattle.std.specs.List.{Contains, range_with_len}
 use Rattle.std.specs.Option.{is_some}
-use Rattle.std.proofs.lemmas.Bool.{not_from_false, le-ltb, lt-ltb}
-use Rattle.std.proofs.lemmas.List.Elements.{Contains-append_right, Contains-get_or, filter-append}
+use Rattle.std.proofs.lemmas.Bool.{not_from_false}
+use Rattle.std.proofs.lemmas.List.Elements.{Contains-append_right, filter-append}
 use Rattle.std.proofs.lemmas.List.Quantifiers.{position-Some}
-use Rattle.std.proofs.lemmas.Option.{slice_get-map, get_or_from_slice_get}
 use Rattle.rw_schema.specs.declared.signature.ArrowEnds.{ArrowEnds}
 use Rattle.rw_schema.specs.RowLists.{RowLists, list_at}
 use Rattle.rw_schema.specs.Signature.{Signature, IsCategory}
 use Rattle.rw_spec.specs.Instance.{Instance, Has, instance_of}
-use Rattle.rw_spec.proofs.Signatures.{source_is}
 use Rattle.rw_table.specs.TableFaults.{table_fault}
 use Rattle.rw_table.proofs.Places.{place_found}
 use Rattle.rw_table.proofs.TableInstance.{table_functions}
 use Rattle.rw_pattern.specs.MapFaults.{image_of}
 use Rattle.rw_pattern.specs.PatternLists.{size_of, instance_of_pattern, map_of_tuple}
 use Rattle.rw_pattern.proofs.Maps.{is_map, images_long, natural_from_map}
-use Rattle.rw_pattern.proofs.PartNames.{part_below, has_part}
-use Rattle.rw_pattern.proofs.Sequences.{contained_in_filter}
+use Rattle.rw_pattern.proofs.PartNames.{has_part}
 use Rattle.rw_pattern.proofs.Shapes.{is_pattern}
 use Rattle.rw_rule.specs.RuleFaults.{IsRuleOver}
 use Rattle.rw_rule.specs.RuleLists.{RuleLists}
-use Rattle.rw_plain.specs.PlainStep.{parts_of, is_image, new_parts, new_before, names_after, name_from, name_of_right, part_of_name, target_of, value_after}
+use Rattle.rw_plain.specs.PlainStep.{is_image, new_parts, new_before, names_after, name_from, name_of_right, part_of_name, value_after}
+use Rattle.rw_plain.proofs.ArrowValues.{new_part_within, value_at_earlier, value_at_new}
 use Rattle.rw_plain.proofs.Ascents.{range_contains, range_bounds}
 use Rattle.rw_plain.proofs.NamesAfter.{name_below, kept_names, new_names, kept_there, kept_known}
 use Rattle.rw_plain.proofs.Parts.{value_part}
 use Rattle.rw_plain.proofs.PlainMatch.{IsPlainMatch, maps_known}
+use Rattle.rw_plain.proofs.Ranges.{range_split}
 use Rattle.rw_plain.proofs.Removed.{kept_stays, value_stays}
-
--- a range is a range and the one behind it
-range_split : (start first later : ℕ) → range_with_len start (first + later) ≡ range_with_len start first ++ range_with_len (start + first) later
-range_split start zero later = rw (zero-add later, add-zero) refl
-range_split start (suc first) later =
-    let one_more : suc first + later ≡ suc (first + later) = omega arith in
-    let same : (start + 1) + first ≡ start + suc first = omega arith in
-    rw (one_more, range_split (start + 1) first later, same) refl
 
 -- below a number that passes a test, fewer numbers pass it than in a longer range
 passes_before : (p : ℕ → Bool) (part later : ℕ) → p part ≡ true
@@ -95,14 +86,7 @@ new_part_there rule next object name there =
     let bounds = range_bounds (slice_index next object) (length fresh) name there in
     let place : ℕ = name - slice_index next object in
     let within : place < length fresh = omega (arith, bounds.0, bounds.1) in
-    part_below rule.right object (slice_index fresh place)
-    (contained_in_filter (λ part. not (is_image rule.r object part)) (parts_of rule.right object) (slice_index fresh place) (Contains-get_or fresh place 0 within)).0
-
--- the target of an arrow is the target in its ends
-target_is : (C : Signature) (a : ℕ) (ends : ArrowEnds) → slice_get C.arrows a ≡ Some ends → target_of C a ≡ ends.target.0
-target_is C a ends there =
-    let target = λ (each : ArrowEnds). each.target.0 in
-    get_or_from_slice_get (map target C.arrows) a ends.target.0 0 (slice_get-map target C.arrows a ∙ ap (option_map target) there)
+    new_part_within rule object place within
 
 -- where an arrow leads from a new name is a name after the step
 pub new_value_there : (C : Signature) (rule : RuleLists) (tuple : List ℕ) (X : Instance) (next : List ℕ) (a : ℕ) (ends : ArrowEnds) (name : ℕ) → IsCategory C
@@ -118,7 +102,7 @@ new_value_there C rule tuple X next a ends name category over match there fresh 
     let image_there : image < size_of rule.right target =
     value_part C rule.right a ends part over.parts.right there (new_part_there rule next source name fresh) in
     let is : value_after C rule tuple X next a name ≡ name_of_right rule tuple next target image =
-    rw (source_is C a ends there, target_is C a ends there, le-ltb name first bounds.0) refl in
+    value_at_new C rule tuple X next a ends name there bounds.0 in
     rw is (right_there C rule tuple X next target image over match (category.targets a ends there) image_there)
 
 -- where an arrow leads from a name that stays is a name after the step
@@ -133,7 +117,7 @@ kept_value_there C rule tuple rows a ends name category none over match there ea
     let kept = kept_known rule tuple X source name early in
     let below : name < slice_index rows.next source = name_below C rows source name none (category.sources a ends there) kept.0 in
     let is : value_after C rule tuple X rows.next a name ≡ X.value a name =
-    rw (source_is C a ends there, lt-ltb name (slice_index rows.next source) below) refl in
+    value_at_earlier C rule tuple X rows.next a ends name there below in
     rw is
     (kept_there rule tuple X rows.next target (X.value a name) (table_functions C rows none a ends name there kept.0)
     (value_stays C rule tuple X a ends name category over match there kept.0 kept.1))

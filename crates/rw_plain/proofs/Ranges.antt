@@ -1,28 +1,24 @@
 -- The numbers from one on, with one number more.
-use Rattle.std.proofs.Common.{◌≡◌, ℕ, zero, suc, ◌+◌, ◌<◌, Bool, true, false, cond, All, filter, map, length, get_or, List, [], ◌∷◌, ◌++◌, refl, ap, sym, ◌∙◌, add-one, add-zero, zero-add, arith, length-append}
+use Rattle.std.proofs.Common.{◌≡◌, ℕ, zero, suc, ◌+◌, ◌<◌, Bool, true, false, cond, filter, map, length, get_or, List, [], ◌∷◌, ◌++◌, refl, ap, sym, ◌∙◌, add-zero, zero-add, arith, length-append}
 use Rattle.std.specs.List.{list_any, range_with_len}
 use Rattle.std.proofs.lemmas.List.{length-map}
-use Rattle.std.proofs.lemmas.List.Elements.{All-from_get_or, filter-append}
-use Rattle.std.proofs.lemmas.List.Folds.{list_any-append, list_any_at}
-use Rattle.std.proofs.lemmas.List.FromFn.{length-range_with_len, get_or-range_with_len, length-map-range_with_len, get_or-map-range_with_len, map-range_with_len_more}
+use Rattle.std.proofs.lemmas.List.Elements.{filter-append}
+use Rattle.std.proofs.lemmas.List.Folds.{list_any-append}
+use Rattle.std.proofs.lemmas.List.FromFn.{length-map-range_with_len, get_or-map-range_with_len, map-range_with_len_more}
 use Rattle.rw_schema.specs.RowLists.{list_at}
 use Rattle.rw_schema.proofs.Lists.{list_at_map}
 
+-- a range is a range and the one behind it
+pub range_split : (start first later : ℕ) → range_with_len start (first + later) ≡ range_with_len start first ++ range_with_len (start + first) later
+range_split start zero later = rw (zero-add later, add-zero) refl
+range_split start (suc first) later =
+    let one_more : suc first + later ≡ suc (first + later) = omega arith in
+    let same : (start + 1) + first ≡ start + suc first = omega arith in
+    rw (one_more, range_split (start + 1) first later, same) refl
+
 -- one number more stands behind the others
 pub range_more : (first n : ℕ) → range_with_len first (n + 1) ≡ range_with_len first n ++ (first + n) ∷ []
-range_more first n = ap (range_with_len first) (add-one n) ∙ one_more first n
-  where
-    one_more : (first n : ℕ) → range_with_len first (suc n) ≡ range_with_len first n ++ (first + n) ∷ []
-    one_more first zero = rw add-zero refl
-    one_more first (suc n) =
-        let same : (first + 1) + n ≡ first + suc n = omega arith in
-        ap (λ rest. first ∷ rest) (one_more (first + 1) n ∙ ap (λ last. range_with_len (first + 1) n ++ last ∷ []) same)
-
--- a test that passes at a number passes at one of the numbers
-pub some_at : (test : ℕ → Bool) (size n : ℕ) → n < size → test n ≡ true → list_any test (range_with_len 0 size) ≡ true
-some_at test size n there here =
-    let within : n < length (range_with_len 0 size) = rw (length-range_with_len 0 size) there in
-    list_any_at test (range_with_len 0 size) n 0 within (rw (get_or-range_with_len 0 size n 0 there, zero-add n) here)
+range_more first n = range_split first n 1
 
 -- a test that fails at the numbers below n and at n fails at the numbers up to n
 pub none_more : (test : ℕ → Bool) (n : ℕ) → list_any test (range_with_len 0 n) ≡ false → test n ≡ false → list_any test (range_with_len 0 (n + 1)) ≡ false
@@ -43,13 +39,6 @@ count_more test n passes here =
     one : (passes : Bool) (n : ℕ) → length (cond passes (n ∷ []) []) ≡ cond passes 1 0
     one true n = refl
     one false n = refl
-
--- each of the numbers is below the one after the last
-pub range_below : (first count : ℕ) → All (λ n. n < first + count) (range_with_len first count)
-range_below first count =
-    All-from_get_or (λ n. n < first + count) (range_with_len first count) 0 (λ place within.
-        let there : place < count = rw (length-range_with_len first count) at within in
-        rw (get_or-range_with_len first count place 0 there) (omega arith))
 
 -- a map over the numbers below n, and over n
 pub map_more : {X : Type 0} (f : ℕ → X) (n : ℕ) (xs : List X) (x : X) → xs ≡ map f (range_with_len 0 n) → x ≡ f n → xs ++ x ∷ [] ≡ map f (range_with_len 0 (n + 1))

@@ -1,5 +1,5 @@
 -- The lists after a step of a plain rule have no fault.
-use Rattle.std.proofs.Common.{◌≡◌, ◌∙◌, ℕ, List, [], Contains, length, sum, slice_get, Some, None, true, inl, inr}
+use Rattle.std.proofs.Common.{◌≡◌, ℕ, List, [], Contains, length, sum, slice_get, Some, None, true, inl, inr}
 use Rattle.std.proofs.lemmas.List.Elements.{Contains-append_cases}
 use Rattle.rw_schema.specs.declared.signature.ArrowEnds.{ArrowEnds}
 use Rattle.rw_schema.specs.RowLists.{RowLists}
@@ -8,11 +8,8 @@ use Rattle.rw_spec.specs.Instance.{Has, instance_of}
 use Rattle.rw_spec.specs.Natural.{IsNatural, IsInjectiveOn}
 use Rattle.rw_table.specs.TableFaults.{table_fault}
 use Rattle.rw_pattern.specs.PatternLists.{instance_of_pattern, map_of_tuple}
-use Rattle.rw_pattern.specs.Matches.{candidates, is_match, matches}
-use Rattle.rw_pattern.specs.Tuples.{tuples}
-use Rattle.rw_pattern.proofs.Naturality.{length_candidates, matches_natural}
-use Rattle.rw_pattern.proofs.Sequences.{contained_in_filter}
-use Rattle.rw_pattern.proofs.Tuples.{is_tuple}
+use Rattle.rw_pattern.specs.Matches.{matches}
+use Rattle.rw_pattern.proofs.Naturality.{matches_natural}
 use Rattle.rw_rule.specs.PlainRules.{is_plain}
 use Rattle.rw_rule.specs.RuleFaults.{IsRuleOver}
 use Rattle.rw_rule.specs.RuleLists.{RuleLists}
@@ -21,6 +18,7 @@ use Rattle.rw_plain.specs.PlainStep.{next_after, instance_after, rows_after}
 use Rattle.rw_plain.proofs.Listed.{listed_unfaulted}
 use Rattle.rw_plain.proofs.NamesAfter.{kept_names, new_names, names_ascend_after}
 use Rattle.rw_plain.proofs.NewNames.{new_value_there, kept_value_there}
+use Rattle.rw_plain.proofs.PartNames.{match_long}
 use Rattle.rw_plain.proofs.PlainMatch.{IsPlainMatch, is_plain_match}
 
 -- each arrow of the instance after the step is a function from the names of its source to those of its target
@@ -57,8 +55,6 @@ step_is_sound C rule tuple rows category no_attributes no_equations none over pl
     let left = rule.goal.left in
     let monic = rule.goal.monic in
     let X = instance_of C rows in
-    let among : Contains (tuples (candidates left X)) tuple =
-    (contained_in_filter (is_match C left monic X) (tuples (candidates left X)) tuple matched).0 in
-    let long : length tuple ≡ sum left.sizes = (is_tuple (candidates left X) tuple among).long ∙ length_candidates left X in
+    let long : length tuple ≡ sum left.sizes = match_long C left monic X tuple matched in
     let maps = (matches_natural C left monic over.parts.goal.left X tuple long).0 matched in
     step_is_sound_natural C rule tuple rows category none over plain maps.0 maps.1 safe

@@ -1,5 +1,5 @@
 -- Why a plain double-pushout rule is not applied at a match: the first obstruction, at its least place.
-use Rattle.std.specs.Prelude.{◌≡◌, ℕ, ◌+◌, Bool, not, ◌&&◌, nat_le, length, List, Option, Some, None}
+use Rattle.std.specs.Prelude.{◌≡◌, ℕ, Bool, not, ◌&&◌, nat_le, List, Option, Some, None}
 use Rattle.rw_schema.specs.declared.signature.ArrowEnds.{ArrowEnds}
 use Rattle.rw_schema.specs.First.{or_else, first_in, fault_unless}
 use Rattle.rw_schema.specs.RowLists.{RowLists}

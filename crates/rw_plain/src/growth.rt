@@ -16,7 +16,11 @@ use std::alloc::Global;
 const MOST_NAMES: u64 = 16_777_216;
 
 /// The new parts of an object, ascending.
-pub(crate) fn new_parts(alloc: Global, rule: &Rule, object: ObjectId) -> Result<Vec<u32>, OutOfMemory>
+pub(crate) fn new_parts(
+    alloc: Global,
+    rule: &Rule,
+    object: ObjectId,
+) -> Result<Vec<u32>, OutOfMemory>
     requires { HasObject rule.now object.0 }
     ensures { IfOk result (λ parts. parts.items ≡ new_parts_of rule.now object.0) }
 {

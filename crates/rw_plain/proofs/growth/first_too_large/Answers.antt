@@ -1,5 +1,5 @@
 -- An object without room is the first, or the first is one of those that are left.
-use Rattle.std.proofs.Common.{◌≡◌, ℕ, ◌<◌, Option, None, false, nat_le, List, length, slice_index, sym, ◌∙◌, arith, get_or}
+use Rattle.std.proofs.Common.{ℕ, ◌<◌, Option, nat_le, List, length, slice_index, sym, ◌∙◌, arith}
 use Rattle.std.proofs.lemmas.Option.{slice_get-get_or}
 use Rattle.rw_schema.specs.First.{fault_unless}
 use Rattle.rw_schema.specs.Presentation.{signature_of}

@@ -5,7 +5,6 @@ use Rattle.rw_schema.specs.declared.parts.ArrowDef.{ArrowDef}
 use Rattle.rw_schema.specs.declared.signature.ArrowEnds.{ArrowEnds}
 use Rattle.rw_schema.specs.First.{map_in}
 use Rattle.rw_schema.specs.Presentation.{ends_of_arrow}
-use Rattle.rw_schema.specs.Signature.{Signature}
 use Rattle.rw_schema.proofs.Lists.{map_in_more}
 use Rattle.rw_spec.specs.Instance.{Instance}
 use Rattle.rw_rule.specs.RuleLists.{RuleLists}

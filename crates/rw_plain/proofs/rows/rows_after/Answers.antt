@@ -1,5 +1,5 @@
 -- A match gives a name to each part, and the lists after the step have no fault.
-use Rattle.std.proofs.Common.{◌≡◌, ◌∙◌, ℕ, List, [], map, ap, refl, subst}
+use Rattle.std.proofs.Common.{◌≡◌, ◌∙◌, ℕ, List, [], map, ap, refl}
 use Rattle.std.specs.List.{range_with_len}
 use Rattle.rw_schema.specs.declared.parts.ArrowDef.{ArrowDef}
 use Rattle.rw_schema.specs.declared.signature.ArrowEnds.{ArrowEnds}

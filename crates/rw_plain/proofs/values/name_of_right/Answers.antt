@@ -1,5 +1,5 @@
 -- The part is the image of a kept part, or it is new.
-use Rattle.std.proofs.Common.{◌≡◌, ◌==◌, ℕ, ◌+◌, Option, Some, None, position, List, slice_index, sym, ap, ◌∙◌, refl, arith}
+use Rattle.std.proofs.Common.{◌≡◌, ◌==◌, ℕ, ◌+◌, Option, Some, None, position, List, slice_index, ap, ◌∙◌, refl, arith}
 use Rattle.rw_schema.specs.RowLists.{list_at}
 use Rattle.rw_pattern.specs.MapFaults.{image_of}
 use Rattle.rw_pattern.specs.PatternLists.{map_of_tuple}

@@ -2,7 +2,6 @@
 use Rattle.std.proofs.Common.{◌≡◌, ℕ, ◌-◌, ◌<◌, ◌≤◌, List, length, slice_index, sym, ap, ◌∙◌, arith}
 use Rattle.rw_schema.specs.Presentation.{ends_of_arrow}
 use Rattle.rw_schema.specs.RowLists.{RowLists, list_at}
-use Rattle.rw_pattern.specs.PatternLists.{size_of}
 use Rattle.rw_rule.specs.RuleLists.{RuleLists}
 use Rattle.rw_table.specs.Tabled.{Tabled, instance_of_table}
 use Rattle.rw_plain.specs.PlainStep.{new_parts, name_of_right}
@@ -10,7 +9,7 @@ use Rattle.rw_plain.proofs.ArrowValues.{new_part_within, value_at_earlier, value
 use Rattle.rw_plain.proofs.values.value_after.Goals as goal
 
 pub value_of_new-requires-clause-part : goal.value_of_new-requires-clause-part
-value_of_new-requires-clause-part c = 
+value_of_new-requires-clause-part c =
     let rule : RuleLists = c.args.rule.now in
     let source : ℕ = c.args.ends.now.source.0 in
     let first : c.next-next.result ≡ slice_index c.args.table.now.rows.next source = c.next-next.ensures ∙ ap (λ (rows : RowLists). slice_index rows.next source) c.rows.ensures.value in
