@@ -2,7 +2,7 @@
 PREFIX ?= /usr/local
 
 all:
-	cd crates/rewrite && rt check && rt run -- matches edge < ../../examples/path.json
+	cd crates/rewrite && rt check && rt run -- matches edge < ../../examples/path.json && rt run -- run < ../../examples/infection.json
 
 test:
 	rt ci
