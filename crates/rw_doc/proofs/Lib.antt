@@ -1,5 +1,6 @@
 pub mod Chains
 pub mod Examples
+pub mod Few
 pub mod Readings
 pub mod SoundPatterns
 pub mod SoundRules

@@ -8,6 +8,7 @@ use Rattle.rw_rule.specs.PlainRules.{is_plain}
 use Rattle.rw_rule.specs.RuleFaults.{IsRuleOver}
 use Rattle.rw_rule.specs.RuleLists.{RuleLists}
 use Rattle.rw_rule.specs.RuleParts.{lists_of_watch}
+use Rattle.rw_doc.proofs.Few.{few_rules_read, few_watches_read}
 use Rattle.rw_doc.proofs.SoundRules.{IsBuilt, any_rules_read}
 use Rattle.rw_doc.proofs.SoundTable.{any_instance_over}
 use Rattle.rw_doc.proofs.SoundWatches.{any_watches_over}
@@ -24,4 +25,6 @@ returns-clause-sound c =
       rules = All-weaker (IsBuilt C) (IsRuleOver C) (λ rule is. is.over) rules built;
       plain = All-weaker (IsBuilt C) (λ (rule : RuleLists). is_plain rule ≡ true) (λ rule is. is.plain) rules built;
       watches = any_watches_over schema c.as_slice.result.now (option_map (λ value. view value.now) c.get-3.result) (map lists_of_watch c.in_ok-watches.watches.items) c.in_ok-watches.ensures;
+      few_rules = few_rules_read schema (option_map (λ value. view value.now) c.get-2.result) rules c.in_ok-rules.ensures;
+      few_watches = few_watches_read schema c.as_slice.result.now (option_map (λ value. view value.now) c.get-3.result) (map lists_of_watch c.in_ok-watches.watches.items) c.in_ok-watches.ensures;
     }
