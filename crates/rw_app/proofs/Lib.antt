@@ -1,2 +1,4 @@
 pub mod Complete
 pub mod Found
+pub mod KeptLists
+pub mod Words
