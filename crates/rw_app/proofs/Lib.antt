@@ -1,3 +1,5 @@
 pub mod AnswerStatuses
 pub mod Complete
 pub mod Found
+pub mod KeptLists
+pub mod Words

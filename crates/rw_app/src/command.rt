@@ -1,6 +1,6 @@
 //! The commands and their words.
 
-ghost use Rattle.std.specs.Prelude.{◌≡◌, map, string_bytes};
+ghost use Rattle.std.specs.Prelude.{◌≡◌, ◌∷◌, codes, map, string_bytes};
 ghost use Rattle.std.specs.Option.{option_map};
 ghost use Rattle.rw_app.specs.Commands.{asked_for, request_of, with_both as with_both_options, with_option as with_one_option};
 
@@ -26,16 +26,35 @@ const USUAL_FUEL: u32 = 1_000;
 pub(crate) fn command_of(words: &Vec<String>) -> Option<Command<'_>>
     ensures { option_map asked_for result ≡ request_of (map string_bytes words.now.items) }
 {
-    match words.as_slice() {
-        [word, name] if word.as_str() == "matches" => Some(Command::Matches(name.as_str())),
-        [word] if word.as_str() == "run" => Some(Command::Run {
+    let (word, others) = words.as_slice().split_first()?;
+    match word.as_str() {
+        "matches" => matches_command(others),
+        "run" => run_command(others),
+        _ => None,
+    }
+}
+
+/// The command `matches` with these words behind it: one, the name.
+fn matches_command(words: &[String]) -> Option<Command<'_>>
+    ensures { option_map asked_for result ≡ request_of (codes "matches" ∷ map string_bytes words.now) }
+{
+    match words {
+        [name] => Some(Command::Matches(name.as_str())),
+        _ => None,
+    }
+}
+
+/// The command `run` with these words behind it: options, each with its number.
+fn run_command<'a>(words: &[String]) -> Option<Command<'a>>
+    ensures { option_map asked_for result ≡ request_of (codes "run" ∷ map string_bytes words.now) }
+{
+    match words {
+        [] => Some(Command::Run {
             fuel: USUAL_FUEL,
             seed: 0,
         }),
-        [word, option, number] if word.as_str() == "run" => {
-            with_option(option.as_str(), number.as_str())
-        }
-        [word, first, fuel, second, seed] if word.as_str() == "run" => with_both(
+        [option, number] => with_option(option.as_str(), number.as_str()),
+        [first, fuel, second, seed] => with_both(
             first.as_str(),
             fuel.as_str(),
             second.as_str(),

@@ -30,8 +30,20 @@ pub(crate) fn kept_lists(
     ensures { IfOk result (λ lists. map (λ list. list.items) lists.items ≡ lists_in (document_lists document.now) table.now.rows) }
 {
     let mut lists = Vec::new(alloc);
-    push_rules(alloc, &document.schema, document.rules.as_slice(), table, &mut lists)?;
-    push_watches(alloc, &document.schema, document.watches.as_slice(), table, &mut lists)?;
+    push_rules(
+        alloc,
+        &document.schema,
+        document.rules.as_slice(),
+        table,
+        &mut lists,
+    )?;
+    push_watches(
+        alloc,
+        &document.schema,
+        document.watches.as_slice(),
+        table,
+        &mut lists,
+    )?;
     Ok(lists)
 }
 

@@ -1,6 +1,7 @@
 //! Numbers on a command line.
 
 ghost use Rattle.std.specs.Prelude.{◌≡◌, ◌≤◌, IfSome, slice_index};
+ghost use Rattle.std.specs.Str.{all_ascii_digits};
 ghost use Rattle.rw_app.specs.Commands.{fuel_of as fuel_of_word, is_numeral as is_numeral_word, number_within as number_of_word, seed_of as seed_of_word};
 
 /// The greatest fuel.
@@ -38,7 +39,14 @@ fn is_numeral(word: &str) -> bool
     ensures { result ≡ is_numeral_word word.now }
 {
     let bytes = word.as_bytes();
-    bytes.iter().all(|byte| byte.is_ascii_digit()) && (bytes.len() == 1 || first_of(bytes) > b'0')
+    are_digits(bytes) && (bytes.len() == 1 || first_of(bytes) > b'0')
+}
+
+/// Whether each byte is a digit.
+fn are_digits(bytes: &[u8]) -> bool
+    ensures { result ≡ all_ascii_digits bytes.now }
+{
+    bytes.iter().all(|byte| byte.is_ascii_digit())
 }
 
 /// The first byte, or 0 where there is none.

@@ -1,0 +1,21 @@
+use Rattle.std.proofs.Common.{List, subst, sym}
+use Rattle.std.specs.List.{All}
+use Rattle.rw_schema.specs.Presentation.{signature_of}
+use Rattle.rw_rule.specs.declared.watch.Watch.{Watch}
+use Rattle.rw_rule.specs.RuleFaults.{IsGoalOver}
+use Rattle.rw_rule.specs.RuleLists.{WatchLists}
+use Rattle.rw_rule.specs.RuleParts.{goal_of_parts}
+use Rattle.rw_app.proofs.KeptLists.{each_watch, lists_kept}
+use Rattle.rw_app.proofs.kept.kept_lists.Goals as goal
+
+pub push_watches-requires-clause-watches : goal.push_watches-requires-clause-watches
+push_watches-requires-clause-watches c =
+    let document = c.args.document.now in
+    let C = signature_of document.schema in
+    subst (λ (watches : List Watch). All (λ watch. IsGoalOver C (goal_of_parts watch.goal)) watches) (sym c.as_slice-2.ensures.value)
+    (each_watch (λ (watch : WatchLists). IsGoalOver C watch.goal) document.watches.items c.requires.sound.watches)
+
+pub returns : goal.returns
+returns c =
+    rw (c.in_ok-push_watches.ensures, c.in_ok-push_rules.ensures, c.new-lists.ensures.items, c.as_slice.ensures.value, c.as_slice-2.ensures.value)
+    (lists_kept c.args.document.now c.args.table.now c.requires.table)
