@@ -1,5 +1,11 @@
 pub mod AnswerStatuses
 pub mod Complete
+pub mod Differences
 pub mod Found
 pub mod KeptLists
+pub mod Leading
+pub mod Lengths
+pub mod Obstructed
+pub mod Picking
+pub mod Telling
 pub mod Words

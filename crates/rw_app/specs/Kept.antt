@@ -4,7 +4,7 @@ use Rattle.rw_schema.specs.Presentation.{signature_of}
 use Rattle.rw_schema.specs.RowLists.{RowLists}
 use Rattle.rw_spec.specs.Instance.{instance_of}
 use Rattle.rw_rule.specs.RuleLists.{RuleLists, WatchLists}
-use Rattle.rw_lists.specs.Fresh.{fresh_list, fresh_lists}
+use Rattle.rw_lists.specs.Fresh.{fresh_list}
 use Rattle.rw_doc.specs.Models.{DocumentLists}
 
 -- a rule's goal under its name
