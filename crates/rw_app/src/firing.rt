@@ -1,12 +1,14 @@
 //! One firing of a rule's box.
 
-ghost use Rattle.std.specs.Prelude.{◌≡◌, ◌<◌, IfOk, Some, None, length, get_or};
+ghost use Rattle.std.specs.Prelude.{◌≡◌, ◌∷◌, IfOk, List, Some, None};
+ghost use Rattle.std.specs.List.{All};
 ghost use Rattle.rw_schema.specs.Presentation.{signature_of};
 ghost use Rattle.rw_rule.specs.RuleLists.{RuleLists};
 ghost use Rattle.rw_doc.specs.Models.{document_lists, IsSound};
+ghost use Rattle.rw_print.specs.Lines.{IsKnown};
 ghost use Rattle.rw_app.specs.Picked.{IsPick};
 ghost use Rattle.rw_app.specs.Runners.{IsFiring, IsWorld};
-ghost use Rattle.rw_app.specs.Runs.{Firing, Picks};
+ghost use Rattle.rw_app.specs.Runs.{Firing};
 
 use crate::kept::kept_lists;
 use crate::pick::{Applied, Pick, pick_first};
@@ -40,8 +42,7 @@ pub(crate) fn fire(
     ensures { IfOk result (λ fired. (firing : Firing) × IsFiring (document_lists document.now) rule.now world.table.rows fired firing) }
 {
     let found = world.lists[0].as_slice();
-    let Pick { refused, applied } =
-        pick_first(alloc, &document.schema, rule, &world.table, found)?;
+    let Pick { refused, applied } = pick_first(alloc, &document.schema, rule, &world.table, found)?;
     match applied {
         Some(applied) => step(alloc, document, rule, world, applied, refused),
         None => stay(alloc, document, rule, world, refused),
@@ -60,6 +61,7 @@ fn step(
     requires sound { IsSound (document_lists document.now) }
     requires world { IsWorld (document_lists document.now) world }
     requires pick { IsPick (signature_of document.now.schema) rule.now world.table.rows (record { refused = refused; applied = Some applied }) }
+    requires known { All (λ entry. IsKnown document.now.schema entry.1) refused.items }
     ensures { IfOk result (λ fired. (firing : Firing) × IsFiring (document_lists document.now) rule.now world.table.rows fired firing) }
 {
     let lists = kept_lists(alloc, document, &applied.after)?;
@@ -95,12 +97,21 @@ fn stay(
     requires sound { IsSound (document_lists document.now) }
     requires world { IsWorld (document_lists document.now) world }
     requires pick { IsPick (signature_of document.now.schema) rule.now world.table.rows (record { refused = refused; applied = None }) }
+    requires known { All (λ entry. IsKnown document.now.schema entry.1) refused.items }
     ensures { IfOk result (λ fired. (firing : Firing) × IsFiring (document_lists document.now) rule.now world.table.rows fired firing) }
 {
     let news = ListsNews {
         lists: Vec::new(alloc),
     };
-    let line = step_line(alloc, &document.schema, 0, rule.name(), None, &news, &refused)?;
+    let line = step_line(
+        alloc,
+        &document.schema,
+        0,
+        rule.name(),
+        None,
+        &news,
+        &refused,
+    )?;
     Ok(Fired {
         line,
         applied: false,

@@ -1,11 +1,13 @@
 //! Which match of a rule is applied.
 
-ghost use Rattle.std.specs.Prelude.{◌≡◌, ◌×◌, IfOk, true, Some, None};
+ghost use Rattle.std.specs.Prelude.{◌≡◌, IfOk, true, Some, None};
+ghost use Rattle.std.specs.List.{All};
 ghost use Rattle.rw_schema.specs.Presentation.{signature_of};
 ghost use Rattle.rw_table.specs.Tabled.{IsOver, instance_of_table};
 ghost use Rattle.rw_rule.specs.PlainRules.{is_plain};
 ghost use Rattle.rw_rule.specs.RuleFaults.{IsRuleOver};
 ghost use Rattle.rw_lists.specs.Fresh.{fresh_list};
+ghost use Rattle.rw_print.specs.Lines.{IsKnown};
 ghost use Rattle.rw_app.specs.Picked.{IsPick};
 
 use rw_pattern::Tuple;
@@ -41,8 +43,11 @@ pub(crate) fn pick_first(
     requires rule { IsRuleOver (signature_of schema.now) rule.now }
     requires plain { is_plain rule.now ≡ true }
     requires found { found.now ≡ fresh_list (signature_of schema.now) (instance_of_table table.now) rule.now.goal }
-    ensures { IfOk result (IsPick (signature_of schema.now) rule.now table.now.rows) }
+    ensures pick { IfOk result (IsPick (signature_of schema.now) rule.now table.now.rows) }
+    ensures known { IfOk result (λ pick. All (λ entry. IsKnown schema.now entry.1) pick.refused.items) }
 {
+    // An obstruction names an object by the place of its next name.
+    prove!(table.rows().next_names() == schema.objects());
     let mut refused = Vec::new(alloc);
     for tuple in found {
         match try_match(alloc, schema, rule, table, tuple)? {

@@ -1,25 +1,26 @@
 //! The run of a document.
 
-ghost use Rattle.std.specs.Prelude.{◌≡◌, ◌×◌, ◌++◌, IfOk, map, length};
+ghost use Rattle.std.specs.Prelude.{◌≡◌, ◌++◌, ◌∷◌, ℕ, IfOk, List, Ok, map, length};
+ghost use Rattle.rw_table.specs.Tabled.{IsOver};
 ghost use Rattle.rw_rule.specs.RuleLists.{RuleLists};
 ghost use Rattle.rw_doc.specs.Models.{document_lists, IsSound};
 ghost use Rattle.rw_print.specs.Lines.{line, end_data};
 ghost use Rattle.rw_app.specs.Answers.{IsAnswerTo, status_of_end as status_of_run};
 ghost use Rattle.rw_app.specs.AnswerTexts.{text_of_answer};
 ghost use Rattle.rw_app.specs.Commands.{run};
-ghost use Rattle.rw_app.specs.Kept.{lists_in};
 ghost use Rattle.rw_app.specs.RunTexts.{sizes_in};
 ghost use Rattle.rw_app.specs.Runners.{HasRun, IsWorld};
-ghost use Rattle.rw_app.specs.Runs.{Firing, IsRun, Run, Stand};
+ghost use Rattle.rw_app.specs.Runs.{Firing, Stand};
 
+use crate::Status;
 use crate::answer::Answer;
+use crate::counts::{lengths_of, sizes_of};
 use crate::firing::{Fired, fire};
 use crate::world::{World, load};
-use crate::Status;
 use rw_doc::Document;
 use rw_print::{End, end_line};
 use rw_rule::Rule;
-use rw_schema::OutOfMemory;
+use rw_schema::{MOST_OBJECTS, OutOfMemory, Schema};
 use std::alloc::Global;
 
 /// What a run gives: the lines of its firings, how it ended, the fuel that is left, and the last state.
@@ -42,16 +43,30 @@ pub(crate) fn run_document(
     ensures { IfOk result (λ answer. (seed : ℕ) → IsAnswerTo (run fuel seed) (Ok (document_lists document.now)) (text_of_answer answer)) }
 {
     let world = load(alloc, document)?;
-    let ran = match document.rules.first() {
-        Some(rule) => run_rule(alloc, document, rule, fuel, world)?,
-        None => Ran {
+    let ran = run_schedule(alloc, document, fuel, world)?;
+    finish(alloc, &document.schema, ran)
+}
+
+/// Runs the document's schedule from the state.
+fn run_schedule(
+    alloc: Global,
+    document: &Document,
+    fuel: u32,
+    start: World,
+) -> Result<Ran, OutOfMemory>
+    requires sound { IsSound (document_lists document.now) }
+    requires start { IsWorld (document_lists document.now) start }
+    ensures { IfOk result (λ ran. (firings : List Firing) × ((last : Stand) × HasRun (document_lists document.now) fuel start.table.rows ran firings last)) }
+{
+    match document.rules.first() {
+        Some(rule) => run_rule(alloc, document, rule, fuel, start),
+        None => Ok(Ran {
             text: Vec::new(alloc),
             end: End::Done,
             fuel,
-            world,
-        },
-    };
-    finish(alloc, ran)
+            world: start,
+        }),
+    }
 }
 
 /// Fires the box of the first rule until nothing is applied, or no fuel is left.
@@ -60,15 +75,15 @@ fn run_rule(
     document: &Document,
     rule: &Rule,
     fuel: u32,
-    world: World,
+    start: World,
 ) -> Result<Ran, OutOfMemory>
     requires sound { IsSound (document_lists document.now) }
     requires rule { (others : List RuleLists) × (document.now.rules.items ≡ rule.now ∷ others) }
-    requires world { IsWorld (document_lists document.now) world }
-    ensures { IfOk result (λ ran. (firings : List Firing) × ((last : Stand) × HasRun (document_lists document.now) fuel world.table.rows ran firings last)) }
+    requires start { IsWorld (document_lists document.now) start }
+    ensures { IfOk result (λ ran. (firings : List Firing) × ((last : Stand) × HasRun (document_lists document.now) fuel start.table.rows ran firings last)) }
 {
     let mut text = Vec::new(alloc);
-    let mut world = world;
+    let mut world = start;
     let mut left = fuel;
     while left > 0 {
         let fired = fire(alloc, document, rule, world)?;
@@ -93,14 +108,16 @@ fn run_rule(
 }
 
 /// Puts the line of the end behind the lines of the firings.
-fn finish(alloc: Global, ran: Ran) -> Result<Answer, OutOfMemory>
+fn finish(alloc: Global, schema: &Schema, ran: Ran) -> Result<Answer, OutOfMemory>
+    requires { IsOver schema.now ran.world.table }
     ensures { IfOk result (λ answer. text_of_answer answer ≡ record {
-        status = status_of_run ran.end;
-        text = ran.text.items ++ line (end_data ran.end ran.fuel (map (λ list. length list.items) ran.world.lists.items) (sizes_in ran.world.table.rows));
+      status = status_of_run ran.end;
+      text = ran.text.items ++ line (end_data ran.end ran.fuel (map (λ list. length list.items) ran.world.lists.items) (sizes_in ran.world.table.rows));
     }) }
 {
+    prove!(schema.objects() <= MOST_OBJECTS);
     let lists = lengths_of(alloc, ran.world.lists.as_slice())?;
-    let sizes = sizes_of(alloc, &ran.world.table)?;
+    let sizes = sizes_of(alloc, ran.world.table.rows())?;
     let line = end_line(alloc, ran.end, ran.fuel, &lists, &sizes)?;
     let mut text = ran.text;
     text.extend_from_slice(line.as_slice())?;

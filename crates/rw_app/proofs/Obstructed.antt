@@ -1,0 +1,79 @@
+-- What an obstruction names.
+use Rattle.std.proofs.Common.{◌≡◌, ℕ, ◌+◌, ◌<◌, Bool, true, false, not, nat_le, Option, Some, None, List, [], ◌∷◌, length, map, subst, arith}
+use Rattle.std.specs.List.{All}
+use Rattle.std.proofs.lemmas.List.{length-map}
+use Rattle.std.proofs.lemmas.List.Elements.{All-weaker}
+use Rattle.rw_schema.specs.declared.signature.ArrowEnds.{ArrowEnds}
+use Rattle.rw_schema.specs.First.{or_else, first_in, fault_unless}
+use Rattle.rw_schema.specs.Presentation.{Presentation, signature_of, ends_of_arrow}
+use Rattle.rw_schema.specs.RowLists.{RowLists}
+use Rattle.rw_spec.specs.Instance.{Instance, instance_of}
+use Rattle.rw_rule.specs.RuleLists.{RuleLists}
+use Rattle.rw_rule.specs.declared.refusal.Refusal.{Refusal}
+use Rattle.rw_rule.specs.declared.refusal.Refusal.TheVariants.{Dangling, TooLarge}
+use Rattle.rw_plain.specs.Obstructions.{most_names, dangles, dangling_at, dangling, too_large, obstruction}
+use Rattle.rw_plain.specs.PlainStep.{next_after}
+use Rattle.rw_print.specs.Lines.{IsKnown}
+use Rattle.rw_app.specs.Runs.{AreRefused}
+
+-- what holds of the first of two answers, where it is there, and of the second holds of what is answered
+or_else_holds : {A : Type 0} (P : A → Type 0) (first second : Option A) (answer : A) → (first ≡ Some answer → P answer) → (second ≡ Some answer → P answer)
+    → or_else first second ≡ Some answer → P answer
+or_else_holds P None second answer of_first of_second found = of_second found
+or_else_holds P (Some first) second answer of_first of_second found = of_first found
+
+-- what holds of each answer of an item holds of the first answer
+first_holds : {X A : Type 0} (P : A → Type 0) (f : ℕ → X → Option A) (i : ℕ) (xs : List X) (answer : A)
+    → ((k : ℕ) (x : X) → k < i + length xs → f k x ≡ Some answer → P answer) → first_in f i xs ≡ Some answer → P answer
+first_holds P f i [] answer each found = let no : ⊥ = cc in absurd no
+first_holds P f i (x ∷ xs) answer each found =
+    or_else_holds P (f i x) (first_in f (i + 1) xs) answer
+    (each i x (omega arith))
+    (first_holds P f (i + 1) xs answer (λ k y within. each k y (omega arith)))
+    found
+
+-- what holds of a fault holds of the answer of its test
+unless_holds : {A : Type 0} (P : A → Type 0) (test : Bool) (fault answer : A) → P fault → fault_unless test fault ≡ Some answer → P answer
+unless_holds P true fault answer holds found = let no : ⊥ = cc in absurd no
+unless_holds P false fault answer holds found = let same : fault ≡ answer = cc in subst P same holds
+
+-- the obstruction of an arrow that dangles names the arrow
+dangling_at_known : (schema : Presentation) (rule : RuleLists) (tuple : List ℕ) (X : Instance) (arrow : ℕ) (ends : ArrowEnds) (refusal : Refusal)
+    → arrow < length schema.arrows → dangling_at rule tuple X arrow ends ≡ Some refusal → IsKnown schema refusal
+dangling_at_known schema rule tuple X arrow ends refusal within found =
+    let test : ℕ → Bool = λ name. not (dangles rule tuple X arrow ends name) in
+    let fault : ℕ → Refusal = λ name. Dangling (record { 0 = arrow }) name in
+    first_holds (IsKnown schema) (λ place name. fault_unless (test name) (fault name)) 0 (X.names ends.source.0) refusal
+    (λ place name inside here. unless_holds (IsKnown schema) (test name) (fault name) refusal within here) found
+
+-- an arrow that dangles is an arrow of the schema
+dangling_known : (schema : Presentation) (rule : RuleLists) (tuple : List ℕ) (X : Instance) (refusal : Refusal)
+    → dangling (signature_of schema) rule tuple X ≡ Some refusal → IsKnown schema refusal
+dangling_known schema rule tuple X refusal found =
+    let arrows : length (map ends_of_arrow schema.arrows) ≡ length schema.arrows = length-map schema.arrows ends_of_arrow in
+    first_holds (IsKnown schema) (dangling_at rule tuple X) 0 (map ends_of_arrow schema.arrows) refusal
+    (λ arrow ends within here. dangling_at_known schema rule tuple X arrow ends refusal (omega arith) here) found
+
+-- an object with too many names is an object of the schema, where each object has one next name
+too_large_known : (schema : Presentation) (rule : RuleLists) (next : List ℕ) (refusal : Refusal) → length next ≡ length schema.objects
+    → too_large rule next ≡ Some refusal → IsKnown schema refusal
+too_large_known schema rule next refusal each found =
+    let test : ℕ → Bool = λ object. nat_le (next_after rule next object) most_names in
+    let fault : ℕ → Refusal = λ object. TooLarge (record { 0 = object }) in
+    first_holds (IsKnown schema) (λ object name. fault_unless (test object) (fault object)) 0 next refusal
+    (λ object name within here. unless_holds (IsKnown schema) (test object) (fault object) refusal (omega arith) here) found
+
+-- an obstruction names an arrow or an object of the schema
+obstruction_known : (schema : Presentation) (rule : RuleLists) (tuple : List ℕ) (rows : RowLists) (refusal : Refusal)
+    → length rows.next ≡ length schema.objects → obstruction (signature_of schema) rule tuple rows ≡ Some refusal → IsKnown schema refusal
+obstruction_known schema rule tuple rows refusal each found =
+    let X : Instance = instance_of (signature_of schema) rows in
+    or_else_holds (IsKnown schema) (dangling (signature_of schema) rule tuple X) (too_large rule rows.next) refusal
+    (dangling_known schema rule tuple X refusal) (too_large_known schema rule rows.next refusal each) found
+
+-- and so does each obstruction of the refused matches
+pub refused_known : (schema : Presentation) (rule : RuleLists) (rows : RowLists) (refused : List (List ℕ × Refusal))
+    → length rows.next ≡ length schema.objects → AreRefused (signature_of schema) rule rows refused → All (λ (entry : List ℕ × Refusal). IsKnown schema entry.1) refused
+refused_known schema rule rows refused each are =
+    All-weaker (λ (entry : List ℕ × Refusal). obstruction (signature_of schema) rule entry.0 rows ≡ Some entry.1) (λ (entry : List ℕ × Refusal). IsKnown schema entry.1)
+    (λ entry found. obstruction_known schema rule entry.0 rows entry.1 each found) refused are

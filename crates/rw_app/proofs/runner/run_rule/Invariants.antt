@@ -1,0 +1,16 @@
+-- The firings so far lead to the present state, from which each run goes on.
+use Rattle.std.proofs.Common.{List}
+use Rattle.rw_doc.specs.Models.{document_lists}
+use Rattle.rw_app.specs.Runners.{HasBegun, IsWorld}
+use Rattle.rw_app.specs.Runs.{Firing}
+use Rattle.rw_app.proofs.runner.run_rule.Given as goal
+
+abbrev pub invariant-loop-left : goal.invariant-loop-left
+invariant-loop-left l = record {
+  firings : List Firing;
+  begun : HasBegun (document_lists l.document) l.fn.fuel l.left l.fn.start.table.rows l.world.table.rows l.text.items firings;
+  world : IsWorld (document_lists l.document) l.world;
+}
+
+abbrev pub decreases-loop-left : goal.decreases-loop-left
+decreases-loop-left l = l.left
