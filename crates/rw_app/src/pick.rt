@@ -46,6 +46,7 @@ pub(crate) fn pick_first(
     ensures pick { IfOk result (IsPick (signature_of schema.now) rule.now table.now.rows) }
     ensures known { IfOk result (λ pick. All (λ entry. IsKnown schema.now entry.1) pick.refused.items) }
 {
+    // An obstruction names an object by the place of its next name.
     prove!(table.rows().next_names() == schema.objects());
     let mut refused = Vec::new(alloc);
     for tuple in found {
