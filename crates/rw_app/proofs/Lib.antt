@@ -7,5 +7,6 @@ pub mod Leading
 pub mod Lengths
 pub mod Obstructed
 pub mod Picking
+pub mod Seeds
 pub mod Telling
 pub mod Words
