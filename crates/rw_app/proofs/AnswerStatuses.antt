@@ -1,12 +1,12 @@
 -- The statuses that an answer can have.
-use Rattle.std.proofs.Common.{◌≡◌, List, Option, Some, None, Result, Ok, Err, find, sym, subst}
+use Rattle.std.proofs.Common.{Option, Some, None, Result, Ok, Err, find, sym, subst}
 use Rattle.std.specs.Str.{bytes_eq}
 use Rattle.rw_rule.specs.RuleLists.{WatchLists}
 use Rattle.rw_doc.specs.declared.fault.DocFault.{DocFault}
 use Rattle.rw_doc.specs.Models.{DocumentLists}
 use Rattle.rw_print.specs.declared.last.End.{End}
 use Rattle.rw_print.specs.declared.last.End.TheVariants.{Done, Failed, Spent}
-use Rattle.rw_app.specs.Answers.{AnswerText, listed, status_of_end, told, IsAnswerTo}
+use Rattle.rw_app.specs.Answers.{AnswerText, listed, status_of_end, IsAnswerTo}
 use Rattle.rw_app.specs.Commands.{Request, matches, run}
 use Rattle.rw_app.specs.Endings.{IsOfAnswer}
 use Rattle.rw_app.specs.Kept.{named_goals}
