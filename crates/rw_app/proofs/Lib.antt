@@ -6,6 +6,7 @@ pub mod KeptLists
 pub mod Leading
 pub mod Lengths
 pub mod Obstructed
+pub mod OneRun
 pub mod Picking
 pub mod Seeds
 pub mod Telling

@@ -3,6 +3,7 @@ pub mod Answers
 pub mod Commands
 pub mod Endings
 pub mod Kept
+pub mod OneRun
 pub mod Picked
 pub mod RunTexts
 pub mod Runners

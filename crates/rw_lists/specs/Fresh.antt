@@ -1,5 +1,5 @@
 -- Kept lists: of each goal the ordered list of its matches.
-use Rattle.std.specs.Prelude.{ℕ, List, map}
+use Rattle.std.specs.Prelude.{ℕ, List}
 use Rattle.rw_schema.specs.Signature.{Signature}
 use Rattle.rw_spec.specs.Instance.{Instance}
 use Rattle.rw_pattern.specs.Matches.{matches}
@@ -8,7 +8,3 @@ use Rattle.rw_rule.specs.RuleLists.{GoalLists}
 -- the list of a goal in an instance: all its matches, in lexicographic order
 abbrev pub fresh_list : Signature → Instance → GoalLists → List (List ℕ)
 fresh_list C X goal = matches C goal.left goal.monic X
-
--- the lists of some goals
-abbrev pub fresh_lists : Signature → Instance → List GoalLists → List (List (List ℕ))
-fresh_lists C X goals = map (fresh_list C X) goals

@@ -1,0 +1,161 @@
+-- A document has one run: at each box the rule, the match that is picked and the instance after it are determined.
+use Rattle.std.proofs.Common.{◌≡◌, ◌<◌, ℕ, List, [], ◌∷◌, ◌++◌, Option, Some, None, slice_get, refl, sym, ap, ◌∙◌, subst, arith}
+use Rattle.std.proofs.lemmas.List.Elements.{All-tail}
+use Rattle.rw_schema.specs.Presentation.{signature_of}
+use Rattle.rw_schema.specs.RowLists.{RowLists}
+use Rattle.rw_schema.specs.Signature.{Signature}
+use Rattle.rw_spec.specs.Instance.{instance_of}
+use Rattle.rw_rule.specs.RuleLists.{RuleLists}
+use Rattle.rw_rule.specs.declared.refusal.Refusal.{Refusal}
+use Rattle.rw_plain.specs.Obstructions.{obstruction}
+use Rattle.rw_plain.specs.PlainStep.{rows_after}
+use Rattle.rw_lists.specs.Fresh.{fresh_list}
+use Rattle.rw_doc.specs.Models.{DocumentLists}
+use Rattle.rw_print.specs.declared.last.End.{End}
+use Rattle.rw_print.specs.declared.last.End.TheVariants.{Done, Failed, Spent}
+use Rattle.rw_app.specs.OneRun.{HasOneRun}
+use Rattle.rw_app.specs.Runs.{Firing, AreRefused, tuples_of, Picks, Changes, Fires, Box, rule, exit, default_schedule, Stand, stand_after, IsFired, EndsAt, Run, Leads}
+
+-- what is refused, and what is picked
+abbrev Tried : Type 0
+Tried = List (List ℕ × Refusal) × Option (List ℕ)
+
+-- a tuple is picked where nothing is in the way, else it is refused before the others are tried
+abbrev after_try : Option Refusal → List ℕ → Tried → Tried
+after_try None tuple others = ([], Some tuple)
+after_try (Some refusal) tuple others = ((tuple, refusal) ∷ others.0, others.1)
+
+-- the tuples of a list are tried in order
+abbrev tried : (List ℕ → Option Refusal) → List (List ℕ) → Tried
+tried obstructs [] = ([], None)
+tried obstructs (tuple ∷ tuples) = after_try (obstructs tuple) tuple (tried obstructs tuples)
+
+-- a refused tuple comes before those that are tried later
+tried_later : (obstructs : List ℕ → Option Refusal) (tuple : List ℕ) (refusal : Refusal) (tuples : List (List ℕ)) (refused : List (List ℕ × Refusal)) (applied : Option (List ℕ))
+    → obstructs tuple ≡ Some refusal → tried obstructs tuples ≡ (refused, applied) → tried obstructs (tuple ∷ tuples) ≡ ((tuple, refusal) ∷ refused, applied)
+tried_later obstructs tuple refusal tuples refused applied is later = rw (is, later) refl
+
+-- the tuple has this first obstruction
+abbrev HasObstruction : Signature → RuleLists → RowLists → List ℕ × Refusal → Type 0
+HasObstruction C r rows entry = obstruction C r entry.0 rows ≡ Some entry.1
+
+-- where all tuples are refused none is picked
+none_picked : (C : Signature) (r : RuleLists) (rows : RowLists) (refused : List (List ℕ × Refusal)) → AreRefused C r rows refused
+    → tried (λ tuple. obstruction C r tuple rows) (tuples_of refused) ≡ (refused, None)
+none_picked C r rows [] are = refl
+none_picked C r rows (entry ∷ refused) are =
+    tried_later (λ tuple. obstruction C r tuple rows) entry.0 entry.1 (tuples_of refused) refused None
+    (are 0 entry (omega arith)) (none_picked C r rows refused (All-tail (HasObstruction C r rows) entry refused are))
+
+-- the first tuple without an obstruction is picked
+one_picked : (C : Signature) (r : RuleLists) (rows : RowLists) (refused : List (List ℕ × Refusal)) (tuple : List ℕ) (rest : List (List ℕ))
+    → AreRefused C r rows refused → obstruction C r tuple rows ≡ None
+    → tried (λ other. obstruction C r other rows) (tuples_of refused ++ tuple ∷ rest) ≡ (refused, Some tuple)
+one_picked C r rows [] tuple rest are free = rw free refl
+one_picked C r rows (entry ∷ refused) tuple rest are free =
+    tried_later (λ other. obstruction C r other rows) entry.0 entry.1 (tuples_of refused ++ tuple ∷ rest) refused (Some tuple)
+    (are 0 entry (omega arith)) (one_picked C r rows refused tuple rest (All-tail (HasObstruction C r rows) entry refused are) free)
+
+-- what is picked of a list is what is picked when its tuples are tried
+picked : (C : Signature) (r : RuleLists) (rows : RowLists) (found : List (List ℕ)) (refused : List (List ℕ × Refusal)) (applied : Option (List ℕ))
+    → Picks C r rows found refused applied → (refused, applied) ≡ tried (λ tuple. obstruction C r tuple rows) found
+picked C r rows found refused None picks = rw picks.0 (sym (none_picked C r rows refused picks.1))
+picked C r rows found refused (Some tuple) picks =
+    rw picks.0.1 (sym (one_picked C r rows refused tuple picks.0.0 picks.1 picks.2))
+
+-- the instance after a firing
+abbrev changed : Signature → RuleLists → RowLists → Option (List ℕ) → RowLists
+changed C r before None = before
+changed C r before (Some tuple) = rows_after C r tuple before
+
+-- a change is to that instance
+changes : (C : Signature) (r : RuleLists) (before : RowLists) (applied : Option (List ℕ)) (after : RowLists) → Changes C r before applied after → after ≡ changed C r before applied
+changes C r before None after is = is
+changes C r before (Some tuple) after is = is
+
+-- the firing of a rule's box in an instance
+abbrev firing_of : Signature → ℕ → RuleLists → RowLists → Firing
+firing_of C place r before =
+    let all : Tried = tried (λ tuple. obstruction C r tuple before) (fresh_list C (instance_of C before) r.goal) in
+    record { place = place; rule = r; before = before; refused = all.0; applied = all.1; after = changed C r before all.1 }
+
+-- each firing is that of its rule's box in its instance
+is_firing_of : (C : Signature) (firing : Firing) → Fires C firing → firing ≡ firing_of C firing.place firing.rule firing.before
+is_firing_of C firing fires =
+    let all : Tried = tried (λ tuple. obstruction C firing.rule tuple firing.before) (fresh_list C (instance_of C firing.before) firing.rule.goal) in
+    let pick : (firing.refused, firing.applied) ≡ all =
+    picked C firing.rule firing.before (fresh_list C (instance_of C firing.before) firing.rule.goal) firing.refused firing.applied fires.picks in
+    let refused : firing.refused ≡ all.0 = ap (λ (pair : Tried). pair.0) pick in
+    let applied : firing.applied ≡ all.1 = ap (λ (pair : Tried). pair.1) pick in
+    let after : firing.after ≡ changed C firing.rule firing.before all.1 =
+    changes C firing.rule firing.before firing.applied firing.after fires.changes ∙ ap (changed C firing.rule firing.before) applied in
+    ap (λ (refused : List (List ℕ × Refusal)). record { place = firing.place; rule = firing.rule; before = firing.before; refused = refused; applied = firing.applied; after = firing.after }) refused
+    ∙ ap (λ (applied : Option (List ℕ)). record { place = firing.place; rule = firing.rule; before = firing.before; refused = all.0; applied = applied; after = firing.after }) applied
+    ∙ ap (λ (after : RowLists). record { place = firing.place; rule = firing.rule; before = firing.before; refused = all.0; applied = all.1; after = after }) after
+
+-- a box of one rule is the box of no other
+same_rule : (box : Option Box) (r s : RuleLists) → box ≡ Some (rule r) → box ≡ Some (rule s) → r ≡ s
+same_rule box r s is also = let same : Some (rule r) ≡ Some (rule s) = sym is ∙ also in cc
+
+-- two firings of the box at which a run stands are the same
+firings_same : (C : Signature) (boxes : List Box) (stand : Stand) (one other : Firing) → IsFired C boxes stand one → IsFired C boxes stand other → one ≡ other
+firings_same C boxes stand one other fired also =
+    let rules : one.rule ≡ other.rule = same_rule (slice_get boxes stand.place) one.rule other.rule fired.box also.box in
+    let places : one.place ≡ other.place = fired.place ∙ sym also.place in
+    let befores : one.before ≡ other.before = fired.before ∙ sym also.before in
+    is_firing_of C one fired.fires
+    ∙ ap (λ (place : ℕ). firing_of C place one.rule one.before) places
+    ∙ ap (λ (r : RuleLists). firing_of C other.place r one.before) rules
+    ∙ ap (λ (before : RowLists). firing_of C other.place other.rule before) befores
+    ∙ sym (is_firing_of C other also.fires)
+
+-- where a run ends no box fires
+no_firing : (C : Signature) (boxes : List Box) (stand : Stand) (end : End) (firing : Firing) → EndsAt boxes stand end → IsFired C boxes stand firing → ⊥
+no_firing C boxes stand Done firing ends fired = let same : Some exit ≡ Some (rule firing.rule) = sym ends ∙ fired.box in cc
+no_firing C boxes stand Failed firing ends fired = ends
+no_firing C boxes stand Spent firing ends fired = let spent : stand.fuel ≡ 0 = ends.1 in let fuel : 0 < stand.fuel = fired.fuel in omega arith
+
+-- a run ends in one way
+ends_same : (boxes : List Box) (stand : Stand) (one other : End) → EndsAt boxes stand one → EndsAt boxes stand other → one ≡ other
+ends_same boxes stand Done Done ends also = refl
+ends_same boxes stand Spent Spent ends also = refl
+ends_same boxes stand Done Spent ends also = let same : Some exit ≡ Some (rule also.0.0) = sym ends ∙ also.0.1 in absurd cc
+ends_same boxes stand Spent Done ends also = let same : Some exit ≡ Some (rule ends.0.0) = sym also ∙ ends.0.1 in absurd cc
+ends_same boxes stand Failed other ends also = absurd ends
+ends_same boxes stand one Failed ends also = absurd also
+
+-- two runs from one place with the same firings, the same last place and the same end
+record AreSame (one other : Run) : Type 0 where
+  pub firings : one.firings ≡ other.firings
+  pub last : one.last ≡ other.last
+  pub end : one.end ≡ other.end
+
+-- what leads from one place to an end is determined
+leads_same : (C : Signature) (boxes : List Box) (stand : Stand) (one other : List Firing) (last_one last_other : Stand) (end_one end_other : End)
+    → Leads C boxes stand one last_one end_one → Leads C boxes stand other last_other end_other
+    → AreSame (record { firings = one; last = last_one; end = end_one }) (record { firings = other; last = last_other; end = end_other })
+leads_same C boxes stand [] [] last_one last_other end_one end_other leads also = record {
+  firings = refl;
+  last = leads.0 ∙ sym also.0;
+  end = ends_same boxes stand end_one end_other leads.1 also.1;
+}
+leads_same C boxes stand [] (firing ∷ other) last_one last_other end_one end_other leads also = absurd (no_firing C boxes stand end_one firing leads.1 also.0)
+leads_same C boxes stand (firing ∷ one) [] last_one last_other end_one end_other leads also = absurd (no_firing C boxes stand end_other firing also.1 leads.0)
+leads_same C boxes stand (firing ∷ one) (other_firing ∷ other) last_one last_other end_one end_other leads also =
+    let first : firing ≡ other_firing = firings_same C boxes stand firing other_firing leads.0 also.0 in
+    let rest = leads_same C boxes (stand_after stand firing) one other last_one last_other end_one end_other leads.1
+    (subst (λ (fired : Firing). Leads C boxes (stand_after stand fired) other last_other end_other) (sym first) also.1) in
+    record {
+      firings = rw (first, rest.firings) refl;
+      last = rest.last;
+      end = rest.end;
+    }
+
+-- a document has one run with so much fuel
+pub one_run : (document : DocumentLists) (fuel : ℕ) → HasOneRun document fuel
+one_run document fuel one other is also =
+    let same = leads_same (signature_of document.schema) (default_schedule document.rules) (record { place = 0; fuel = fuel; rows = document.table.rows })
+    one.firings other.firings one.last other.last one.end other.end is also in
+    ap (λ (firings : List Firing). record { firings = firings; last = one.last; end = one.end }) same.firings
+    ∙ ap (λ (last : Stand). record { firings = other.firings; last = last; end = one.end }) same.last
+    ∙ ap (λ (end : End). record { firings = other.firings; last = other.last; end = end }) same.end
