@@ -9,5 +9,7 @@ pub mod Obstructed
 pub mod OneRun
 pub mod Picking
 pub mod Seeds
+pub mod SomeRun
 pub mod Telling
+pub mod Tried
 pub mod Words

@@ -1,6 +1,5 @@
 -- A document has one run: at each box the rule, the match that is picked and the instance after it are determined.
-use Rattle.std.proofs.Common.{◌≡◌, ◌<◌, ℕ, List, [], ◌∷◌, ◌++◌, Option, Some, None, slice_get, refl, sym, ap, ◌∙◌, subst, arith}
-use Rattle.std.proofs.lemmas.List.Elements.{All-tail}
+use Rattle.std.proofs.Common.{◌≡◌, ◌<◌, ℕ, List, [], ◌∷◌, Option, Some, None, slice_get, refl, sym, ap, ◌∙◌, subst, arith}
 use Rattle.rw_schema.specs.Presentation.{signature_of}
 use Rattle.rw_schema.specs.RowLists.{RowLists}
 use Rattle.rw_schema.specs.Signature.{Signature}
@@ -13,58 +12,12 @@ use Rattle.rw_lists.specs.Fresh.{fresh_list}
 use Rattle.rw_doc.specs.Models.{DocumentLists}
 use Rattle.rw_print.specs.declared.last.End.{End}
 use Rattle.rw_print.specs.declared.last.End.TheVariants.{Done, Failed, Spent}
-use Rattle.rw_app.specs.OneRun.{HasOneRun}
-use Rattle.rw_app.specs.Runs.{Firing, AreRefused, tuples_of, Picks, Changes, Fires, Box, rule, exit, default_schedule, Stand, stand_after, IsFired, EndsAt, Run, Leads}
-
--- what is refused, and what is picked
-abbrev Tried : Type 0
-Tried = List (List ℕ × Refusal) × Option (List ℕ)
-
--- a tuple is picked where nothing is in the way, else it is refused before the others are tried
-abbrev after_try : Option Refusal → List ℕ → Tried → Tried
-after_try None tuple others = ([], Some tuple)
-after_try (Some refusal) tuple others = ((tuple, refusal) ∷ others.0, others.1)
-
--- the tuples of a list are tried in order
-abbrev tried : (List ℕ → Option Refusal) → List (List ℕ) → Tried
-tried obstructs [] = ([], None)
-tried obstructs (tuple ∷ tuples) = after_try (obstructs tuple) tuple (tried obstructs tuples)
-
--- a refused tuple comes before those that are tried later
-tried_later : (obstructs : List ℕ → Option Refusal) (tuple : List ℕ) (refusal : Refusal) (tuples : List (List ℕ)) (refused : List (List ℕ × Refusal)) (applied : Option (List ℕ))
-    → obstructs tuple ≡ Some refusal → tried obstructs tuples ≡ (refused, applied) → tried obstructs (tuple ∷ tuples) ≡ ((tuple, refusal) ∷ refused, applied)
-tried_later obstructs tuple refusal tuples refused applied is later = rw (is, later) refl
-
--- the tuple has this first obstruction
-abbrev HasObstruction : Signature → RuleLists → RowLists → List ℕ × Refusal → Type 0
-HasObstruction C r rows entry = obstruction C r entry.0 rows ≡ Some entry.1
-
--- where all tuples are refused none is picked
-none_picked : (C : Signature) (r : RuleLists) (rows : RowLists) (refused : List (List ℕ × Refusal)) → AreRefused C r rows refused
-    → tried (λ tuple. obstruction C r tuple rows) (tuples_of refused) ≡ (refused, None)
-none_picked C r rows [] are = refl
-none_picked C r rows (entry ∷ refused) are =
-    tried_later (λ tuple. obstruction C r tuple rows) entry.0 entry.1 (tuples_of refused) refused None
-    (are 0 entry (omega arith)) (none_picked C r rows refused (All-tail (HasObstruction C r rows) entry refused are))
-
--- the first tuple without an obstruction is picked
-one_picked : (C : Signature) (r : RuleLists) (rows : RowLists) (refused : List (List ℕ × Refusal)) (tuple : List ℕ) (rest : List (List ℕ))
-    → AreRefused C r rows refused → obstruction C r tuple rows ≡ None
-    → tried (λ other. obstruction C r other rows) (tuples_of refused ++ tuple ∷ rest) ≡ (refused, Some tuple)
-one_picked C r rows [] tuple rest are free = rw free refl
-one_picked C r rows (entry ∷ refused) tuple rest are free =
-    tried_later (λ other. obstruction C r other rows) entry.0 entry.1 (tuples_of refused ++ tuple ∷ rest) refused (Some tuple)
-    (are 0 entry (omega arith)) (one_picked C r rows refused tuple rest (All-tail (HasObstruction C r rows) entry refused are) free)
-
--- what is picked of a list is what is picked when its tuples are tried
-picked : (C : Signature) (r : RuleLists) (rows : RowLists) (found : List (List ℕ)) (refused : List (List ℕ × Refusal)) (applied : Option (List ℕ))
-    → Picks C r rows found refused applied → (refused, applied) ≡ tried (λ tuple. obstruction C r tuple rows) found
-picked C r rows found refused None picks = rw picks.0 (sym (none_picked C r rows refused picks.1))
-picked C r rows found refused (Some tuple) picks =
-    rw picks.0.1 (sym (one_picked C r rows refused tuple picks.0.0 picks.1 picks.2))
+use Rattle.rw_app.proofs.Tried.{Tried, tried, picked}
+use Rattle.rw_app.specs.OneRun.{AreOneRun}
+use Rattle.rw_app.specs.Runs.{Firing, Changes, Fires, Box, rule, exit, default_schedule, Stand, stand_after, IsFired, EndsAt, Run, Leads}
 
 -- the instance after a firing
-abbrev changed : Signature → RuleLists → RowLists → Option (List ℕ) → RowLists
+abbrev pub changed : Signature → RuleLists → RowLists → Option (List ℕ) → RowLists
 changed C r before None = before
 changed C r before (Some tuple) = rows_after C r tuple before
 
@@ -74,7 +27,7 @@ changes C r before None after is = is
 changes C r before (Some tuple) after is = is
 
 -- the firing of a rule's box in an instance
-abbrev firing_of : Signature → ℕ → RuleLists → RowLists → Firing
+abbrev pub firing_of : Signature → ℕ → RuleLists → RowLists → Firing
 firing_of C place r before =
     let all : Tried = tried (λ tuple. obstruction C r tuple before) (fresh_list C (instance_of C before) r.goal) in
     record { place = place; rule = r; before = before; refused = all.0; applied = all.1; after = changed C r before all.1 }
@@ -151,8 +104,8 @@ leads_same C boxes stand (firing ∷ one) (other_firing ∷ other) last_one last
       end = rest.end;
     }
 
--- a document has one run with so much fuel
-pub one_run : (document : DocumentLists) (fuel : ℕ) → HasOneRun document fuel
+-- any two runs of a document with so much fuel are the same
+pub one_run : (document : DocumentLists) (fuel : ℕ) → AreOneRun document fuel
 one_run document fuel one other is also =
     let same = leads_same (signature_of document.schema) (default_schedule document.rules) (record { place = 0; fuel = fuel; rows = document.table.rows })
     one.firings other.firings one.last other.last one.end other.end is also in
