@@ -16,8 +16,7 @@ pub fn is_plain(schema: &Schema, rule: &Rule) -> bool
     ensures { result ≡ is_plain_rule rule.now }
 {
     let goal = rule.goal();
-    is_one_to_one(rule.keep(), rule.r())
-        && is_monic_where_many(&goal.left, goal.monic.as_slice())
+    is_one_to_one(rule.keep(), rule.r()) && is_monic_where_many(&goal.left, goal.monic.as_slice())
 }
 
 /// Whether each object with two parts or more is monic.
