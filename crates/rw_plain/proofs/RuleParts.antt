@@ -41,7 +41,7 @@ object_known C rule object is known =
     }
 
 -- a rule over a category has each of its arrows
-pub arrow_known : (C : Signature) (rule : RuleLists) (arrow : ℕ) (ends : ArrowEnds) → IsCategory C → IsRuleOver C rule
+arrow_known : (C : Signature) (rule : RuleLists) (arrow : ℕ) (ends : ArrowEnds) → IsCategory C → IsRuleOver C rule
     → slice_get C.arrows arrow ≡ Some ends → HasArrow C rule arrow ends
 arrow_known C rule arrow ends category is there =
     let right : IsPattern C rule.right = is_pattern C rule.right is.parts.right in

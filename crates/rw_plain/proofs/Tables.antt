@@ -16,10 +16,6 @@ use Rattle.rw_plain.specs.PlainStep.{is_matched, is_removed}
 pub next_long : (C : Signature) (rows : RowLists) → table_fault C rows ≡ None → length rows.next ≡ C.objects
 next_long C rows none = (shape_known C rows (checked_known C rows none).shape).next
 
--- there is one row for each arrow
-pub rows_long : (C : Signature) (rows : RowLists) → table_fault C rows ≡ None → length rows.arrows ≡ length C.arrows
-rows_long C rows none = (shape_known C rows (checked_known C rows none).shape).arrows
-
 -- the value of an arrow at the name at a place is the image at that place
 pub value_at_place : (C : Signature) (rows : RowLists) (arrow : ℕ) (ends : ArrowEnds) (place : ℕ) → table_fault C rows ≡ None
     → slice_get C.arrows arrow ≡ Some ends → place < length (list_at rows.names ends.source.0)

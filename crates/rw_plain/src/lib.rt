@@ -12,3 +12,6 @@ mod verdict;
 
 pub use step::try_match;
 pub use verdict::Verdict;
+
+#[cfg(test)]
+mod tests;
