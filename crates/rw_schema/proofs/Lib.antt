@@ -1,3 +1,6 @@
+pub mod Atoms
 pub mod Firsts
 pub mod Lists
+pub mod Orders
+pub mod Paths
 pub mod Schemas

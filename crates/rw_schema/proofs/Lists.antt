@@ -1,5 +1,6 @@
 -- Lists of lists, maps with places, and tests behind a map.
-use Rattle.std.proofs.Common.{◌≡◌, ℕ, zero, suc, ◌+◌, ◌<◌, Bool, true, ◌||◌, cond, not, Some, List, [], ◌∷◌, ◌++◌, map, length, get_or, position, slice_get, slice_set, refl, ap, ◌∙◌, add-zero, arith, ◌≢◌, get_or-set_other, get_or-set_same, ◌≤◌, take, le_of_lt, zero-add}
+use Rattle.std.proofs.Common.{◌≡◌, ℕ, zero, suc, ◌+◌, ◌<◌, Bool, true, ◌&&◌, ◌||◌, cond, not, Some, List, [], ◌∷◌, ◌++◌, map, length, get_or, position, slice_get, slice_set, refl, ap, ◌∙◌, add-zero, arith, ◌≢◌, get_or-set_other, get_or-set_same, ◌≤◌, take, le_of_lt, zero-add}
+use Rattle.std.specs.Cmp.Lexicographic.{pointwise}
 use Rattle.std.specs.List.{list_any, list_all, position_or_len}
 use Rattle.std.proofs.lemmas.List.{length-map, length-take-le, get_or-map, get_or_past, take_more}
 use Rattle.std.proofs.lemmas.Option.{slice_get-get_or}
@@ -90,3 +91,11 @@ map_in_more f xs i x within is =
 pub map_in_same : {X A : Type 0} (f g : ℕ → X → A) (i : ℕ) (xs : List X) → ((k : ℕ) (x : X) → f k x ≡ g k x) → map_in f i xs ≡ map_in g i xs
 map_in_same f g i [] same = refl
 map_in_same f g i (x ∷ xs) same = rw (same i x, map_in_same f g (i + 1) xs same) refl
+
+-- a comparison head by head, behind a map
+pub pointwise_map : {X Y : Type 0} (equals : Y → Y → Bool) (h : X → Y) (xs ys : List X)
+    → pointwise (λ x y. equals (h x) (h y)) xs ys ≡ pointwise equals (map h xs) (map h ys)
+pointwise_map equals h [] [] = refl
+pointwise_map equals h [] (y ∷ ys) = refl
+pointwise_map equals h (x ∷ xs) [] = refl
+pointwise_map equals h (x ∷ xs) (y ∷ ys) = ap (λ b. equals (h x) (h y) && b) (pointwise_map equals h xs ys)

@@ -4,3 +4,4 @@ pub mod RowLists
 pub mod SchemaFaults
 pub mod SectionName
 pub mod Signature
+pub mod Topological

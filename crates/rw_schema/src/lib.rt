@@ -7,8 +7,11 @@
 #![tactic(auto)]
 
 mod atom;
+mod cells;
+mod equations;
 mod fault;
 mod ids;
+mod limits;
 mod memory;
 mod named;
 mod names;
@@ -22,10 +25,14 @@ mod signature;
 #[cfg(test)]
 mod tests;
 mod text;
+mod topological;
 
 pub use atom::{Atom, Kind};
 pub use fault::SchemaFault;
 pub use ids::{ArrowId, AttrId, ObjectId};
+pub use limits::{
+    LONGEST_NAME, LONGEST_PATH, MOST_ARROWS, MOST_ATTRIBUTES, MOST_EQUATIONS, MOST_OBJECTS,
+};
 pub use memory::OutOfMemory;
 pub use named::Named;
 pub use names::Names;
@@ -33,7 +40,7 @@ pub use part_map::PartMap;
 pub use parts::{ArrowDef, AttrDef, Equation, SchemaParts};
 pub use path::Path;
 pub use rows::Rows;
-pub use schema::{LONGEST_NAME, MOST_ARROWS, MOST_OBJECTS, Schema};
+pub use schema::Schema;
 pub use section::Section;
 pub use signature::{ArrowEnds, AttrEnds};
 pub use text::Text;

@@ -2,7 +2,7 @@
 
 ghost use Rattle.std.specs.Prelude.{◌≡◌, List, ℕ};
 
-use crate::{ArrowDef, Text};
+use crate::{ArrowDef, AttrDef, Text};
 
 /// A thing with a name.
 pub trait Named {
@@ -23,6 +23,14 @@ impl Named for Text {
 
 impl Named for ArrowDef {
     ghost name_of = { λ arrow. arrow.name };
+
+    fn name(&self) -> &Text {
+        &self.name
+    }
+}
+
+impl Named for AttrDef {
+    ghost name_of = { λ attribute. attribute.name };
 
     fn name(&self) -> &Text {
         &self.name

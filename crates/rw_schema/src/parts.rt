@@ -31,4 +31,6 @@ pub struct Equation {
 pub struct SchemaParts {
     pub objects: Vec<Text>,
     pub arrows: Vec<ArrowDef>,
+    pub attributes: Vec<AttrDef>,
+    pub equations: Vec<Equation>,
 }

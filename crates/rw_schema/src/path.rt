@@ -1,8 +1,9 @@
 //! Paths of arrows.
 
-ghost use Rattle.std.specs.Prelude.{◌≡◌};
+ghost use Rattle.std.specs.Prelude.{◌≡◌, IfOk};
 
-use crate::ArrowId;
+use crate::{ArrowId, OutOfMemory};
+use std::alloc::Global;
 use std::marker::Model;
 
 /// A path: its arrows, the first to be followed first. The empty path is the identity. Contracts see the
@@ -32,5 +33,13 @@ impl Path {
         ensures { result.now ≡ self.now }
     {
         self.arrows.as_slice()
+    }
+
+    /// A copy, in memory of its own.
+    pub fn copy(&self, alloc: Global) -> Result<Path, OutOfMemory>
+        ensures { IfOk result (λ copy. copy ≡ self.now) }
+    {
+        let arrows = self.arrows.as_slice().to_vec(alloc)?;
+        Ok(Path { arrows })
     }
 }

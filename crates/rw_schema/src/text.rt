@@ -21,6 +21,27 @@ impl Model for Text {
     ghost view = { λ text. string_bytes text.string };
 }
 
+impl PartialEq for Text {
+    ghost use Rattle.std.proofs.Common.{rules};
+    ghost use Rattle.std.specs.Cmp.Rules.{comparing};
+    ghost use Rattle.std.specs.Str.{bytes_eq};
+
+    ghost eq = { bytes_eq };
+
+    ghost laws = { Prim.search (comparing, rules) };
+
+    fn eq(&self, other: &Text) -> bool {
+        self.as_str() == other.as_str()
+    }
+}
+
+impl Eq for Text {
+    ghost use Rattle.std.proofs.Common.{rules};
+    ghost use Rattle.std.specs.Cmp.Rules.{comparing};
+
+    ghost laws = { Prim.search (comparing, rules) };
+}
+
 impl Text {
     /// A copy of the text, in memory of its own.
     pub fn of(alloc: Global, text: &str) -> Result<Text, OutOfMemory>
@@ -28,6 +49,13 @@ impl Text {
     {
         let string = String::from_str(alloc, text)?;
         Ok(Text { string })
+    }
+
+    /// A copy, in memory of its own.
+    pub fn copy(&self, alloc: Global) -> Result<Text, OutOfMemory>
+        ensures { IfOk result (λ copy. copy ≡ self.now) }
+    {
+        Text::of(alloc, self.as_str())
     }
 
     pub fn as_str(&self) -> &str

@@ -1,0 +1,6 @@
+-- What was copied are the cells so far.
+use Rattle.std.proofs.Common.{◌≡◌, take}
+use Rattle.rw_schema.proofs.cells.copy_cells.Given as goal
+
+abbrev pub invariant-loop-cell : goal.invariant-loop-cell
+invariant-loop-cell l = l.copies.items ≡ take l.cell-index l.cells

@@ -1,0 +1,56 @@
+-- Orders of the objects in which arrows point backwards.
+use Rattle.std.specs.Prelude.{◌≡◌, ◌==◌, ◌<◌, ◌&&◌, ◌||◌, ℕ, Bool, true, false, not, List, length, Contains, Option, Some, None, slice_get}
+use Rattle.std.specs.List.{list_any, list_all}
+use Rattle.rw_schema.specs.declared.ids.ArrowId.{ArrowId}
+use Rattle.rw_schema.specs.declared.ids.ObjectId.{ObjectId}
+use Rattle.rw_schema.specs.declared.parts.ArrowDef.{ArrowDef}
+use Rattle.rw_schema.specs.declared.signature.ArrowEnds.{ArrowEnds}
+use Rattle.rw_schema.specs.Signature.{Signature, IsPath}
+
+-- a path that is not empty leads from an object to itself
+pub record HasCycle (C : Signature) : Type 0 where
+  pub object : ℕ
+  pub path : List ArrowId
+  pub long : 0 < length path
+  pub leads : IsPath C object path object
+
+-- the object stands in the list before the other
+pub record IsBefore (order : List ObjectId) (first second : ℕ) : Type 0 where
+  pub first_place : ℕ
+  pub second_place : ℕ
+  pub first_is : slice_get order first_place ≡ Some (record { 0 = first })
+  pub second_is : slice_get order second_place ≡ Some (record { 0 = second })
+  pub before : first_place < second_place
+
+-- all objects, each once, and the target of each arrow before its source
+pub record IsTopological (C : Signature) (order : List ObjectId) : Type 0 where
+  pub all : (object : ℕ) → object < C.objects → Contains order (record { 0 = object })
+  pub long : length order ≡ C.objects
+  pub targets_first : (a : ℕ) (ends : ArrowEnds) → slice_get C.arrows a ≡ Some ends → IsBefore order ends.target.0 ends.source.0
+
+-- such an order, which is there exactly where no arrows lead round a cycle
+abbrev pub OrdersObjects : Signature → Option (List ObjectId) → Type 0
+OrdersObjects C (Some order) = IsTopological C order × ¬ HasCycle C
+OrdersObjects C None = HasCycle C
+
+-- the object is among those placed
+abbrev pub is_placed : List ObjectId → ℕ → Bool
+is_placed placed object = list_any (λ (other : ObjectId). object == other.0) placed
+
+-- the arrow does not leave the object, or it leads to a placed one
+abbrev pub is_back : List ObjectId → ℕ → ArrowDef → Bool
+is_back placed object arrow = not (object == arrow.source.0) || is_placed placed arrow.target.0
+
+-- each arrow of the object leads to a placed one
+abbrev pub is_ready : List ArrowDef → List ObjectId → ℕ → Bool
+is_ready arrows placed object = list_all (is_back placed object) arrows
+
+-- the object is not placed yet, and each of its arrows leads to a placed one
+abbrev pub is_next : List ArrowDef → List ObjectId → ℕ → Bool
+is_next arrows placed object = not (is_placed placed object) && is_ready arrows placed object
+
+-- the least object that can be placed next, or nothing where there is none
+abbrev pub IsNextOf : ℕ → List ArrowDef → List ObjectId → Option ObjectId → Type 0
+IsNextOf objects arrows placed (Some object) =
+    (object.0 < objects) × (is_next arrows placed object.0 ≡ true) × ((other : ℕ) → other < object.0 → is_next arrows placed other ≡ false)
+IsNextOf objects arrows placed None = (object : ℕ) → object < objects → is_next arrows placed object ≡ false
