@@ -1,3 +1,4 @@
+pub mod Atoms
 pub mod First
 pub mod Presentation
 pub mod RowLists

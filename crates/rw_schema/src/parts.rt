@@ -1,6 +1,9 @@
 //! What a schema is built from.
 
-use crate::{Kind, ObjectId, Path, Text};
+ghost use Rattle.std.specs.Prelude.{◌≡◌, IfOk};
+
+use crate::{Kind, ObjectId, OutOfMemory, Path, Text};
+use std::alloc::Global;
 
 /// An arrow: a function from the parts of its source to those of its target.
 #[derive(Drop)]
@@ -24,6 +27,21 @@ pub struct Equation {
     pub object: ObjectId,
     pub left: Path,
     pub right: Path,
+}
+
+impl Equation {
+    /// A copy, in memory of its own.
+    pub fn copy(&self, alloc: Global) -> Result<Equation, OutOfMemory>
+        ensures { IfOk result (λ copy. copy ≡ self.now) }
+    {
+        let left = self.left.copy(alloc)?;
+        let right = self.right.copy(alloc)?;
+        Ok(Equation {
+            object: self.object,
+            left,
+            right,
+        })
+    }
 }
 
 /// The lists that a schema is built from. A number in them is a place in these lists, from 0.

@@ -3,13 +3,11 @@
 use Rattle.std.specs.Prelude.{◌≡◌, ◌==◌, ℕ, cond, List, [], ◌∷◌, map, Option, Some, None, Contains, slice_get}
 use Rattle.std.specs.List.{range_with_len}
 use Rattle.rw_schema.specs.declared.atom.Atom.{Atom}
-use Rattle.rw_schema.specs.declared.atom.Atom.TheVariants as atoms
-use Rattle.rw_schema.specs.declared.atom.Kind.{Kind}
-use Rattle.rw_schema.specs.declared.atom.Kind.TheVariants as kinds
 use Rattle.rw_schema.specs.declared.ids.ArrowId.{ArrowId}
 use Rattle.rw_schema.specs.declared.parts.Equation.{Equation}
 use Rattle.rw_schema.specs.declared.signature.ArrowEnds.{ArrowEnds}
 use Rattle.rw_schema.specs.declared.signature.AttrEnds.{AttrEnds}
+use Rattle.rw_schema.specs.Atoms.{kind_of}
 use Rattle.rw_schema.specs.First.{map_in}
 use Rattle.rw_schema.specs.RowLists.{RowLists, list_at}
 use Rattle.rw_schema.specs.Signature.{Signature, source_of, holder_of}
@@ -31,11 +29,6 @@ Has X object x = Contains (X.names object) x
 abbrev pub follow : Instance → List ArrowId → ℕ → ℕ
 follow X [] x = x
 follow X (arrow ∷ path) x = follow X path (X.value arrow.0 x)
-
-abbrev pub kind_of : Atom → Kind
-kind_of (atoms.Int number) = kinds.Int
-kind_of (atoms.Text text) = kinds.Text
-kind_of (atoms.Bool truth) = kinds.Bool
 
 -- each arrow is a function from the names of its source to those of its target, each atom is of its attribute's
 -- kind, and the two sides of each equation lead from each name to one name
