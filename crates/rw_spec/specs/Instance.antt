@@ -1,6 +1,6 @@
 -- Instances of a schema as the field has them: a set of names for each object, a function for each arrow, a cell
 -- for each name of an attribute's object.
-use Rattle.std.specs.Prelude.{◌≡◌, ◌==◌, ℕ, cond, List, [], ◌∷◌, map, Option, Some, None, Contains, slice_get}
+use Rattle.std.specs.Prelude.{◌≡◌, ◌==◌, ℕ, Bool, cond, List, [], ◌∷◌, map, Option, Some, None, Contains, slice_get}
 use Rattle.std.specs.List.{range_with_len}
 use Rattle.rw_schema.specs.declared.atom.Atom.{Atom}
 use Rattle.rw_schema.specs.declared.ids.ArrowId.{ArrowId}
@@ -29,6 +29,10 @@ Has X object x = Contains (X.names object) x
 abbrev pub follow : Instance → List ArrowId → ℕ → ℕ
 follow X [] x = x
 follow X (arrow ∷ path) x = follow X path (X.value arrow.0 x)
+
+-- both sides of the equation lead from the name to one name
+abbrev pub agrees_at : Instance → Equation → ℕ → Bool
+agrees_at X equation name = follow X equation.left name == follow X equation.right name
 
 -- each arrow is a function from the names of its source to those of its target, each atom is of its attribute's
 -- kind, and the two sides of each equation lead from each name to one name

@@ -10,7 +10,7 @@ use Rattle.rw_schema.specs.Atoms.{is_of_kind}
 use Rattle.rw_schema.specs.First.{or_else, first_in, fault_unless, all_in}
 use Rattle.rw_schema.specs.RowLists.{RowLists, list_at}
 use Rattle.rw_schema.specs.Signature.{Signature}
-use Rattle.rw_spec.specs.Instance.{Instance, follow, instance_of}
+use Rattle.rw_spec.specs.Instance.{Instance, agrees_at, instance_of}
 use Rattle.rw_table.specs.Tabled.{Tabled}
 use Rattle.rw_table.specs.declared.fault.TableFault.{TableFault}
 use Rattle.rw_table.specs.declared.fault.TableFault.TheVariants.{Shape, Names, Range, Kind, Equation, OutOfMemory}
@@ -69,10 +69,6 @@ cell_fault rows attribute ends =
 -- the first attribute with such a cell
 abbrev pub kind_fault : Signature → RowLists → Option TableFault
 kind_fault C rows = first_in (cell_fault rows) 0 C.attributes
-
--- both sides of the equation lead from the name to one name
-abbrev pub agrees_at : Instance → equations.Equation → ℕ → Bool
-agrees_at X equation name = follow X equation.left name == follow X equation.right name
 
 -- the first name at which the equation fails
 abbrev pub failure_of : Instance → ℕ → equations.Equation → Option TableFault
