@@ -1,3 +1,4 @@
+pub mod Entries
 pub mod MapFaults
 pub mod Matches
 pub mod PatternFaults

@@ -6,7 +6,7 @@ ghost use Rattle.rw_schema.specs.Presentation.{signature_of, ends_of_arrow};
 ghost use Rattle.rw_schema.specs.RowLists.{list_at};
 ghost use Rattle.rw_spec.specs.Natural.{IsNatural};
 ghost use Rattle.rw_pattern.specs.MapFaults.{ChecksMap, has_images, has_map_shape, image_fault, image_of, square_fault};
-ghost use Rattle.rw_pattern.specs.PatternFaults.{pattern_fault};
+ghost use Rattle.rw_pattern.specs.PatternFaults.{IsPatternOf};
 ghost use Rattle.rw_pattern.specs.PatternLists.{size_of, instance_of_pattern};
 ghost use Rattle.rw_pattern.specs.declared.map_fault.MapFault.TheVariants.{Range, NotNatural};
 
@@ -21,8 +21,8 @@ pub fn check_map(
     to: &Pattern,
     images: &PartMap,
 ) -> Result<(), MapFault>
-    requires from { pattern_fault (signature_of schema.now) from.now ≡ None }
-    requires to { pattern_fault (signature_of schema.now) to.now ≡ None }
+    requires from { IsPatternOf (signature_of schema.now) from.now }
+    requires to { IsPatternOf (signature_of schema.now) to.now }
     ensures fault { ChecksMap (signature_of schema.now) from.now to.now images.now result }
     ensures natural { OnOk result (IsNatural (signature_of schema.now) (instance_of_pattern from.now) (instance_of_pattern to.now) (image_of images.now)) }
 {
@@ -92,8 +92,8 @@ fn stray_in(object: ObjectId, images: &[u32], size: u32) -> Option<MapFault>
 
 /// The first arrow and part at which the map does not commute.
 fn first_square(schema: &Schema, from: &Pattern, to: &Pattern, images: &PartMap) -> Option<MapFault>
-    requires from { pattern_fault (signature_of schema.now) from.now ≡ None }
-    requires to { pattern_fault (signature_of schema.now) to.now ≡ None }
+    requires from { IsPatternOf (signature_of schema.now) from.now }
+    requires to { IsPatternOf (signature_of schema.now) to.now }
     requires shape { has_map_shape from.now images.now ≡ true }
     ensures { result ≡ first_in (square_fault from.now to.now images.now) 0 (map ends_of_arrow schema.now.arrows) }
 {

@@ -11,12 +11,21 @@ pub enum PatternFault {
     /// There is not one size for each object and one row for each arrow, or a row has not one image for each part.
     #[error("a list has a wrong length")]
     Shape,
-    /// More than 64 parts.
+    /// More than 64 parts, or more than 256 entries on cells.
     #[error("a limit is passed")]
     Limit,
-    /// An image is no part of its arrow's target.
-    #[error("an image is not there")]
+    /// An image is no part of its arrow's target, or an entry's part is none of its attribute's object.
+    #[error("an image or a part is not there")]
     Range,
+    /// The constant of the entry is of another kind than its attribute.
+    #[error("a constant is of another kind than its attribute")]
+    Kind { cell: u32 },
+    /// The variable of the entry is not there, or is of another kind than its attribute.
+    #[error("a variable is not there or is of another kind")]
+    Variable { cell: u32 },
+    /// The two sides of the equation lead from the part to different parts.
+    #[error("an equation does not hold")]
+    Equation { equation: u32, part: u32 },
     #[error("out of memory")]
     OutOfMemory,
 }
