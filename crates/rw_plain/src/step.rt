@@ -34,7 +34,7 @@ pub fn try_match(
 ) -> Result<Verdict, OutOfMemory>
     requires table { IsOver schema.now table.now }
     requires rule { IsRuleOver (signature_of schema.now) rule.now }
-    requires plain { is_plain rule.now ≡ true }
+    requires plain { is_plain (signature_of schema.now) rule.now ≡ true }
     requires tuple { Contains (matches (signature_of schema.now) rule.now.goal.left rule.now.goal.monic (instance_of_table table.now)) tuple.now }
     ensures { IfOk result (IsVerdict (signature_of schema.now) rule.now tuple.now table.now.rows) }
 {

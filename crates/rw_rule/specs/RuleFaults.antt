@@ -1,11 +1,11 @@
 -- When lists are a rule, and the first fault of those that are none.
-use Rattle.std.specs.Prelude.{◌≡◌, ℕ, Bool, ◌&&◌, is_none, length, List, Option, Some, None, Result, Ok, Err}
+use Rattle.std.specs.Prelude.{◌≡◌, ℕ, Bool, ◌&&◌, is_none, length, List, [], Option, Some, None, Result, Ok, Err}
 use Rattle.rw_schema.specs.First.{or_else, fault_unless, all_in}
 use Rattle.rw_schema.specs.RowLists.{list_at}
 use Rattle.rw_schema.specs.Signature.{Signature}
 use Rattle.rw_spec.specs.Distinct.{are_distinct}
 use Rattle.rw_pattern.specs.MapFaults.{map_fault}
-use Rattle.rw_pattern.specs.PatternFaults.{pattern_fault}
+use Rattle.rw_pattern.specs.PatternFaults.{IsPatternOver}
 use Rattle.rw_pattern.specs.PatternLists.{PatternLists}
 use Rattle.rw_rule.specs.RuleLists.{GoalLists, RuleLists}
 use Rattle.rw_rule.specs.declared.fault.RuleFault.{RuleFault}
@@ -27,16 +27,18 @@ are_maps C rule = is_none (map_fault C rule.keep rule.goal.left rule.l) && is_no
 abbrev pub rule_fault : Signature → RuleLists → Option RuleFault
 rule_fault C rule = or_else (fault_unless (are_maps C rule) NotHom) (fault_unless (is_injective rule.keep rule.l) NotInjective)
 
--- the pattern is over the signature, and each object has one entry in the list of monic objects
+-- the pattern is over the signature with the goal's variables, and each object has one entry in the list of monic objects
 pub record IsGoalOver (C : Signature) (goal : GoalLists) : Type 0 where
-  pub left : pattern_fault C goal.left ≡ None
+  pub left : IsPatternOver C goal.kinds goal.left
   pub monic : length goal.monic ≡ C.objects
 
--- the patterns are over the signature
+-- the patterns are over the signature, and what is kept and what stands there afterwards have no entries on cells
 pub record AreOver (C : Signature) (rule : RuleLists) : Type 0 where
   pub goal : IsGoalOver C rule.goal
-  pub keep : pattern_fault C rule.keep ≡ None
-  pub right : pattern_fault C rule.right ≡ None
+  pub keep : IsPatternOver C [] rule.keep
+  pub right : IsPatternOver C [] rule.right
+  pub keep_free : rule.keep.cells ≡ []
+  pub right_free : rule.right.cells ≡ []
 
 -- the lists are a rule over the signature
 pub record IsRuleOver (C : Signature) (rule : RuleLists) : Type 0 where

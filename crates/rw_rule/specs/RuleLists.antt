@@ -1,12 +1,14 @@
 -- A rewriting rule as contracts see it.
 use Rattle.std.specs.Prelude.{ℕ, List, Bool}
+use Rattle.rw_schema.specs.declared.atom.Kind.{Kind}
 use Rattle.rw_pattern.specs.PatternLists.{PatternLists}
 use Rattle.rw_rule.specs.declared.kind.RuleKind.{RuleKind}
 
--- the pattern that is matched, and of each object whether two of its parts must have two images
+-- the pattern that is matched, of each object whether two of its parts must have two images, and the kinds of the variables
 pub record GoalLists : Type 0 where
   pub left : PatternLists
   pub monic : List Bool
+  pub kinds : List Kind
 
 -- a span of patterns, left from keep to right, with a name and a kind
 pub record RuleLists : Type 0 where

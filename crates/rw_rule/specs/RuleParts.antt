@@ -6,7 +6,7 @@ use Rattle.rw_rule.specs.RuleLists.{GoalLists, RuleLists, WatchLists}
 
 -- the lists of what is looked for
 abbrev pub goal_of_parts : Goal → GoalLists
-goal_of_parts goal = record { left = goal.left; monic = goal.monic.items }
+goal_of_parts goal = record { left = goal.left; monic = goal.monic.items; kinds = goal.kinds.items }
 
 -- the lists of all parts
 abbrev pub rule_of_parts : RuleParts → RuleLists

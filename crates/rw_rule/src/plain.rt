@@ -10,13 +10,16 @@ use crate::rule::is_one_to_one;
 use rw_pattern::Pattern;
 use rw_schema::Schema;
 
-/// Whether the map to the right side is injective, and so is every match of the left side. It takes no memory.
+/// Whether the schema has no attributes, the map to the right side is injective, and so is every match of the left
+/// side. It takes no memory.
 pub fn is_plain(schema: &Schema, rule: &Rule) -> bool
     requires { IsRuleOver (signature_of schema.now) rule.now }
-    ensures { result ≡ is_plain_rule rule.now }
+    ensures { result ≡ is_plain_rule (signature_of schema.now) rule.now }
 {
     let goal = rule.goal();
-    is_one_to_one(rule.keep(), rule.r()) && is_monic_where_many(&goal.left, goal.monic.as_slice())
+    schema.attributes() == 0
+        && is_one_to_one(rule.keep(), rule.r())
+        && is_monic_where_many(&goal.left, goal.monic.as_slice())
 }
 
 /// Whether each object with two parts or more is monic.

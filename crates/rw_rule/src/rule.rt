@@ -1,9 +1,9 @@
 //! Rewriting rules.
 
-ghost use Rattle.std.specs.Prelude.{◌≡◌, ◌≤◌, None, is_none, length};
+ghost use Rattle.std.specs.Prelude.{◌≡◌, ◌≤◌, is_none, length};
 ghost use Rattle.rw_schema.specs.Presentation.{signature_of};
 ghost use Rattle.rw_pattern.specs.MapFaults.{map_fault};
-ghost use Rattle.rw_pattern.specs.PatternFaults.{pattern_fault};
+ghost use Rattle.rw_pattern.specs.PatternFaults.{IsPatternOf};
 ghost use Rattle.rw_rule.specs.RuleFaults.{AreOver, BuildsRule, are_maps, is_injective};
 ghost use Rattle.rw_rule.specs.RuleParts.{goal_of_parts, rule_of_parts};
 
@@ -36,7 +36,7 @@ impl Model for Rule {
     ghost view = { λ rule. record {
       name = rule.name;
       kind = rule.kind;
-      goal = record { left = rule.goal.left; monic = rule.goal.monic.items };
+      goal = record { left = rule.goal.left; monic = rule.goal.monic.items; kinds = rule.goal.kinds.items };
       keep = rule.keep;
       right = rule.right;
       l = rule.l;
@@ -136,8 +136,8 @@ fn has_maps(schema: &Schema, parts: &RuleParts) -> bool
 
 /// Whether the images are a map from the one pattern to the other.
 fn is_map(schema: &Schema, from: &Pattern, to: &Pattern, images: &PartMap) -> bool
-    requires from { pattern_fault (signature_of schema.now) from.now ≡ None }
-    requires to { pattern_fault (signature_of schema.now) to.now ≡ None }
+    requires from { IsPatternOf (signature_of schema.now) from.now }
+    requires to { IsPatternOf (signature_of schema.now) to.now }
     ensures { result ≡ is_none (map_fault (signature_of schema.now) from.now to.now images.now) }
 {
     check_map(schema, from, to, images).is_ok()
