@@ -1,5 +1,6 @@
 pub mod Chain
-pub mod Documents
+pub mod Faults
 pub mod Gives
+pub mod Instances
 pub mod Json
-pub mod Models
+pub mod Schemas

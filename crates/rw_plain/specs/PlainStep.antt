@@ -4,14 +4,11 @@ use Rattle.std.specs.Prelude.{◌==◌, ℕ, ◌+◌, ◌-◌, Bool, not, ◌&&�
 use Rattle.std.specs.List.{list_any, range_with_len}
 use Rattle.rw_schema.specs.RowLists.{RowLists, list_at}
 use Rattle.rw_schema.specs.Signature.{Signature, source_of}
+use Rattle.rw_spec.specs.Ends.{target_of}
 use Rattle.rw_spec.specs.Instance.{Instance, instance_of, lists_of}
 use Rattle.rw_pattern.specs.MapFaults.{image_of}
 use Rattle.rw_pattern.specs.PatternLists.{PatternLists, size_of, map_of_tuple}
 use Rattle.rw_rule.specs.RuleLists.{RuleLists}
-
--- the object that an arrow enters
-abbrev pub target_of : Signature → ℕ → ℕ
-target_of C arrow = slice_index (map (λ ends. ends.target.0) C.arrows) arrow
 
 -- the parts of an object
 abbrev pub parts_of : PatternLists → ℕ → List ℕ

@@ -1,3 +1,4 @@
 pub mod Distinct
+pub mod Ends
 pub mod Instance
 pub mod Natural

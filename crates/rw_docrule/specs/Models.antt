@@ -7,7 +7,7 @@ use Rattle.rw_rule.specs.PlainRules.{is_plain}
 use Rattle.rw_rule.specs.RuleFaults.{IsGoalOver, IsRuleOver}
 use Rattle.rw_rule.specs.RuleLists.{RuleLists, WatchLists}
 use Rattle.rw_rule.specs.RuleParts.{lists_of_watch}
-use Rattle.rw_doc.specs.declared.document.Document.{Document}
+use Rattle.rw_docrule.specs.declared.document.Document.{Document}
 
 pub record DocumentLists : Type 0 where
   pub schema : Presentation
@@ -28,7 +28,7 @@ document_lists document = record {
 pub record IsSound (document : DocumentLists) : Type 0 where
   pub table : IsOver document.schema document.table
   pub rules : All (IsRuleOver (signature_of document.schema)) document.rules
-  pub plain : All (λ rule. is_plain rule ≡ true) document.rules
+  pub plain : All (λ rule. is_plain (signature_of document.schema) rule ≡ true) document.rules
   pub watches : All (λ (watch : WatchLists). IsGoalOver (signature_of document.schema) watch.goal) document.watches
   pub few_rules : length document.rules ≤ 256
   pub few_watches : length document.watches ≤ 64

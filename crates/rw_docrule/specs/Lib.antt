@@ -1,0 +1,7 @@
+pub mod Documents
+pub mod Models
+pub mod Patterns
+pub mod Readings
+pub mod Rules
+pub mod Variables
+pub mod Watches
