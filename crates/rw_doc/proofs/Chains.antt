@@ -1,8 +1,8 @@
 -- What holds of a value that a chain of readings gives.
-use Rattle.std.proofs.Common.{◌≡◌, ℕ, ◌+◌, Bool, true, false, Option, Some, None, Result, Ok, Err, List, [], ◌∷◌, refl, subst}
+use Rattle.std.proofs.Common.{◌≡◌, ℕ, ◌+◌, Bool, true, false, Result, Ok, Err, List, [], ◌∷◌, refl, subst}
 use Rattle.std.specs.List.{All}
 use Rattle.std.proofs.lemmas.List.Elements.{All-nil, All-cons}
-use Rattle.rw_doc.specs.Chain.{and_then, each_in, passes, sound}
+use Rattle.rw_doc.specs.Chain.{and_then, each_in, checked}
 
 -- what holds of each reading that may come second holds of the whole
 pub chain : {A B E : Type 0} (P : B → Type 0) (first : Result A E) (second : A → Result B E)
@@ -10,15 +10,11 @@ pub chain : {A B E : Type 0} (P : B → Type 0) (first : Result A E) (second : A
 chain P (Ok x) second holds y is = holds x refl y is
 chain P (Err fault) second holds y is = let never : ⊥ = cc in absurd never
 
--- what holds of x, where a test of it passes, holds of what the test lets pass
-pub passed : {A E : Type 0} (P : A → Type 0) (fault : E) (test : Bool) (x : A) → (test ≡ true → P x) → (y : A) → passes fault test x ≡ Ok y → P y
-passed P fault true x holds y is = let same : x ≡ y = cc in subst P same (holds refl)
-passed P fault false x holds y is = let never : ⊥ = cc in absurd never
-
--- what holds of x, where it has no fault, holds of what is built
-pub built : {A F E : Type 0} (P : A → Type 0) (fault : E) (found : Option F) (x : A) → (found ≡ None → P x) → (y : A) → sound fault found x ≡ Ok y → P y
-built P fault None x holds y is = let same : x ≡ y = cc in subst P same (holds refl)
-built P fault (Some other) x holds y is = let never : ⊥ = cc in absurd never
+-- what holds of a reading holds of one that is checked first
+pub checked_then : {A E : Type 0} (P : A → Type 0) (fault : E) (test : Bool) (reading : Result A E)
+    → (test ≡ true → (y : A) → reading ≡ Ok y → P y) → (y : A) → checked fault test reading ≡ Ok y → P y
+checked_then P fault true reading holds y is = holds refl y is
+checked_then P fault false reading holds y is = let never : ⊥ = cc in absurd never
 
 -- what holds of each item that is read holds of all
 pub each : {X A E : Type 0} (P : A → Type 0) (f : ℕ → X → Result A E) → ((i : ℕ) (x : X) (y : A) → f i x ≡ Ok y → P y)

@@ -8,9 +8,6 @@ use Rattle.std.proofs.lemmas.Str.{IsUtf8-from_is_utf8}
 use Rattle.serde_json.specs.Data.{Data}
 use Rattle.serde_json.specs.View.{view, items_of, members_view}
 use Rattle.serde_json.specs.declared.value.Value.{Value}
-use Rattle.rw_rule.specs.declared.watch.Watch.{Watch}
-use Rattle.rw_rule.specs.RuleLists.{WatchLists}
-use Rattle.rw_rule.specs.RuleParts.{lists_of_watch}
 use Rattle.rw_doc.specs.declared.fault.DocFault.{DocFault}
 use Rattle.rw_doc.specs.Chain.{and_then, each_in}
 use Rattle.rw_doc.specs.Json.{list_of, keys_of}
@@ -43,13 +40,6 @@ pub keys_among : (keys : List (Bor (List ℕ))) (members : List (String Global �
     ≡ list_all (λ key. list_any (λ other. bytes_eq (string_bytes key) other.now) keys) (map (λ entry. entry.0) members)
 keys_among keys [] = refl
 keys_among keys (entry ∷ members) = rw (list_any_map (bytes_eq (string_bytes entry.0)) (λ other. other.now) keys, keys_among keys members) refl
-
--- a watch before the place has the name where its lists have
-pub named_before : (name : List ℕ) (watches : List Watch) (place : ℕ)
-    → list_any (λ (other : WatchLists). bytes_eq name other.name) (take place (map lists_of_watch watches))
-    ≡ list_any (λ (other : Watch). bytes_eq name other.name) (take place watches)
-named_before name watches place =
-    rw (take-map lists_of_watch place watches) (list_any_map (λ (other : WatchLists). bytes_eq name other.name) lists_of_watch (take place watches))
 
 -- bytes that are no UTF-8 fail its test
 pub not_utf8 : (bytes : List ℕ) → (IsUtf8 bytes → ⊥) → is_utf8 bytes ≡ false

@@ -6,10 +6,9 @@ mod fault;
 mod instance;
 mod json;
 mod schema;
-#[cfg(test)]
-mod tests;
 
 pub use end::ReadDocEnd;
 pub use fault::DocFault;
+pub use json::{atom_of, count_of, has_only};
 pub use instance::{empty_instance, read_instance};
 pub use schema::read_schema;
