@@ -1,18 +1,18 @@
-//! The conditions under which lists are a pattern.
+//! Whether lists have the shape of a pattern, and few parts.
 
-ghost use Rattle.std.specs.Prelude.{◌≡◌, ◌==◌, true, length, map, nat_le, nat_lt, sum};
+ghost use Rattle.std.specs.Prelude.{◌≡◌, ◌==◌, [], true, length, map, nat_le, sum};
 ghost use Rattle.std.specs.List.{list_all};
 ghost use Rattle.rw_schema.specs.First.{all_in};
 ghost use Rattle.rw_schema.specs.Presentation.{signature_of, ends_of_arrow};
 ghost use Rattle.rw_schema.specs.SchemaFaults.{has_ends};
-ghost use Rattle.rw_pattern.specs.PatternFaults.{has_shape, has_length, is_in_range};
+ghost use Rattle.rw_pattern.specs.PatternFaults.{has_shape, has_length};
 
 use crate::pattern::MOST_PARTS;
 use rw_schema::{ArrowDef, Schema};
 
-/// Whether there is one size for each object, and one row of the right length for each arrow.
+/// Whether there is one size for each object, and one row of the right length for each arrow. Cells have no part in it.
 pub fn are_shaped(schema: &Schema, sizes: &[u32], rows: &[Vec<u32>]) -> bool
-    ensures { result ≡ has_shape (signature_of schema.now) (record { sizes = sizes.now; rows = map (λ row. row.items) rows.now }) }
+    ensures { result ≡ has_shape (signature_of schema.now) (record { sizes = sizes.now; rows = map (λ row. row.items) rows.now; cells = []; holders = [] }) }
 {
     sizes.len() == schema.objects()
         && rows.len() == schema.arrows()
@@ -33,25 +33,11 @@ pub fn are_few(sizes: &[u32]) -> bool
     true
 }
 
-/// Whether each image of each row is a part of the arrow's target.
-pub fn are_in_range(arrows: &[ArrowDef], sizes: &[u32], rows: &[Vec<u32>]) -> bool
-    requires rows { length rows.now ≡ length arrows.now }
-    requires ends { list_all (has_ends (length sizes.now)) arrows.now ≡ true }
-    ensures { result ≡ all_in (is_in_range (record { sizes = sizes.now; rows = map (λ row. row.items) rows.now })) 0 (map ends_of_arrow arrows.now) }
-{
-    for (number, arrow) in arrows.iter().enumerate() {
-        if !are_below(rows[number].as_slice(), sizes[arrow.target.0 as usize]) {
-            return false;
-        }
-    }
-    true
-}
-
 /// Whether each row has one image for each part of the arrow's source.
 fn have_lengths(arrows: &[ArrowDef], sizes: &[u32], rows: &[Vec<u32>]) -> bool
     requires rows { length rows.now ≡ length arrows.now }
     requires ends { list_all (has_ends (length sizes.now)) arrows.now ≡ true }
-    ensures { result ≡ all_in (has_length (record { sizes = sizes.now; rows = map (λ row. row.items) rows.now })) 0 (map ends_of_arrow arrows.now) }
+    ensures { result ≡ all_in (has_length (record { sizes = sizes.now; rows = map (λ row. row.items) rows.now; cells = []; holders = [] })) 0 (map ends_of_arrow arrows.now) }
 {
     for (number, arrow) in arrows.iter().enumerate() {
         if !has_images(rows[number].as_slice(), sizes[arrow.source.0 as usize]) {
@@ -66,11 +52,4 @@ fn has_images(row: &[u32], size: u32) -> bool
     ensures { result ≡ (length row.now == size) }
 {
     row.len() == size as usize
-}
-
-/// Whether each image of the row is below the size.
-fn are_below(row: &[u32], size: u32) -> bool
-    ensures { result ≡ list_all (λ image. nat_lt image size) row.now }
-{
-    row.iter().all(|image| *image < size)
 }
