@@ -6,7 +6,7 @@ use Rattle.std.proofs.lemmas.List.Concat.{flat_map-append}
 use Rattle.rw_schema.specs.Presentation.{signature_of}
 use Rattle.rw_schema.specs.RowLists.{RowLists}
 use Rattle.rw_rule.specs.RuleLists.{RuleLists}
-use Rattle.rw_doc.specs.Models.{DocumentLists}
+use Rattle.rw_docrule.specs.Models.{DocumentLists}
 use Rattle.rw_print.specs.declared.last.End.{End}
 use Rattle.rw_print.specs.declared.last.End.TheVariants.{Done, Spent}
 use Rattle.rw_app.specs.declared.firing.Fired.{Fired}

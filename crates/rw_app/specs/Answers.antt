@@ -1,21 +1,21 @@
 -- What each command answers of the bytes of a document: a status and a text.
-use Rattle.std.specs.Prelude.{◌≡◌, ℕ, List, Option, Some, None, Result, Ok, Err, find}
+use Rattle.std.specs.Prelude.{◌≡◌, ℕ, List, length, map, Option, Some, None, Result, Ok, Err, find}
 use Rattle.std.specs.Str.{bytes_eq}
 use Rattle.rw_schema.specs.declared.section.Section.TheVariants.{Whole}
 use Rattle.rw_rule.specs.RuleLists.{WatchLists}
 use Rattle.rw_doc.specs.declared.fault.DocFault.{DocFault}
-use Rattle.rw_doc.specs.Documents.{read_document}
-use Rattle.rw_doc.specs.Models.{DocumentLists}
+use Rattle.rw_docrule.specs.Documents.{read_document}
+use Rattle.rw_docrule.specs.Models.{DocumentLists}
 use Rattle.rw_print.specs.declared.last.End.{End}
 use Rattle.rw_print.specs.declared.last.End.TheVariants as ends
-use Rattle.rw_print.specs.Lines.{line, matches_data, fault_data}
+use Rattle.rw_print.specs.Lines.{line, matches_data, check_data, fault_data}
 use Rattle.rw_app.specs.declared.status.Status.{Status}
 use Rattle.rw_app.specs.declared.status.Status.TheVariants.{Done, Refused, Failed, Spent}
 use Rattle.rw_app.specs.Commands.{Request}
 use Rattle.rw_app.specs.Commands as commands
-use Rattle.rw_app.specs.Kept.{named_goals, list_in}
+use Rattle.rw_app.specs.Kept.{named_goals, list_in, lists_in}
 use Rattle.rw_app.specs.Runs.{Run, IsRun}
-use Rattle.rw_app.specs.RunTexts.{run_text}
+use Rattle.rw_app.specs.RunTexts.{run_text, sizes_in}
 
 pub record AnswerText : Type 0 where
   pub status : Status
@@ -37,6 +37,13 @@ listed document (Some named) = record {
   text = line (matches_data named.name (list_in document document.table.rows named));
 }
 
+-- the lengths of the kept lists, and the numbers of parts
+abbrev pub checked : DocumentLists → AnswerText
+checked document = record {
+  status = Done;
+  text = line (check_data (map length (lists_in document document.table.rows)) (sizes_in document.table.rows));
+}
+
 -- the status of a run's end
 abbrev pub status_of_end : End → Status
 status_of_end ends.Done = Done
@@ -51,6 +58,7 @@ told document run = record { status = status_of_end run.end; text = run_text doc
 abbrev pub IsAnswerTo : Request → Result DocumentLists DocFault → AnswerText → Type 0
 IsAnswerTo request (Err fault) answer = answer ≡ refusal fault
 IsAnswerTo (commands.matches name) (Ok document) answer = answer ≡ listed document (find (λ named. bytes_eq name named.name) (named_goals document))
+IsAnswerTo commands.check (Ok document) answer = answer ≡ checked document
 IsAnswerTo (commands.run fuel seed) (Ok document) answer = (run : Run) × IsRun document fuel run × (answer ≡ told document run)
 
 -- the answer is that to a request about the document that bytes are

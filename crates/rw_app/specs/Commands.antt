@@ -2,8 +2,9 @@
 use Rattle.std.specs.Prelude.{◌==◌, ℕ, ◌-◌, ◌^◌, Bool, ◌&&◌, ◌||◌, nat_le, nat_lt, length, slice_index, List, [], ◌∷◌, ◌++◌, codes, Option, Some, None, option_and_then, option_map, if◌then◌else◌}
 use Rattle.std.specs.Str.{bytes_eq, all_ascii_digits}
 use Rattle.std.specs.Str.Parse.{digits_value}
+use Rattle.rw_schema.specs.First.{or_else}
 use Rattle.rw_app.specs.declared.command.Command.{Command}
-use Rattle.rw_app.specs.declared.command.Command.TheVariants.{Matches, Run}
+use Rattle.rw_app.specs.declared.command.Command.TheVariants.{Matches, Run, Check}
 
 -- what is asked for
 pub data Request : Type 0 where
@@ -11,11 +12,14 @@ pub data Request : Type 0 where
   matches : List ℕ → Request
   -- a run with so much fuel, by the stream of this seed
   run : ℕ → ℕ → Request
+  -- the lengths of the kept lists and the numbers of parts
+  check : Request
 
 -- what a command asks for
 abbrev pub asked_for : Command → Request
 asked_for (Matches name) = matches name.now
 asked_for (Run fuel seed) = run fuel seed
+asked_for Check = check
 
 -- a numeral in base ten: digits alone, and no zero before another digit
 abbrev pub is_numeral : List ℕ → Bool
@@ -52,10 +56,14 @@ with_both first fuel second seed =
 abbrev pub where_word : List ℕ → List ℕ → Option Request → Option Request
 where_word command word request = if bytes_eq word command then request else None
 
--- what the words ask for: `matches NAME`, or `run [--fuel N] [--seed N]`
+-- what one word asks for
+abbrev pub with_word : List ℕ → Option Request
+with_word word = or_else (where_word (codes "run") word (Some (run usual_fuel 0))) (where_word (codes "check") word (Some check))
+
+-- what the words ask for: `matches NAME`, `run [--fuel N] [--seed N]`, or `check`
 abbrev pub request_of : List (List ℕ) → Option Request
 request_of [] = None
-request_of (word ∷ []) = where_word (codes "run") word (Some (run usual_fuel 0))
+request_of (word ∷ []) = with_word word
 request_of (word ∷ name ∷ []) = where_word (codes "matches") word (Some (matches name))
 request_of (word ∷ option ∷ number ∷ []) = where_word (codes "run") word (with_option option number)
 request_of (word ∷ first ∷ fuel ∷ second ∷ []) = None

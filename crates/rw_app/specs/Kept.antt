@@ -5,7 +5,7 @@ use Rattle.rw_schema.specs.RowLists.{RowLists}
 use Rattle.rw_spec.specs.Instance.{instance_of}
 use Rattle.rw_rule.specs.RuleLists.{RuleLists, WatchLists}
 use Rattle.rw_lists.specs.Fresh.{fresh_list}
-use Rattle.rw_doc.specs.Models.{DocumentLists}
+use Rattle.rw_docrule.specs.Models.{DocumentLists}
 
 -- a rule's goal under its name
 abbrev pub goal_of_rule : RuleLists → WatchLists

@@ -1,6 +1,6 @@
 -- A document has exactly one run.
 use Rattle.std.specs.Prelude.{◌≡◌, ℕ}
-use Rattle.rw_doc.specs.Models.{DocumentLists}
+use Rattle.rw_docrule.specs.Models.{DocumentLists}
 use Rattle.rw_app.specs.Runs.{Run, IsRun}
 
 -- any two runs of the document with so much fuel are the same

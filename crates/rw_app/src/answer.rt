@@ -6,18 +6,21 @@ ghost use Rattle.std.specs.Option.{option_map};
 ghost use Rattle.std.specs.Str.{bytes_eq};
 ghost use Rattle.rw_rule.specs.RuleFaults.{IsGoalOver};
 ghost use Rattle.rw_rule.specs.RuleParts.{goal_of_parts};
-ghost use Rattle.rw_doc.specs.Models.{document_lists, IsSound};
-ghost use Rattle.rw_app.specs.Answers.{IsAnswer, IsAnswerTo, listed, refusal as refusal_of};
+ghost use Rattle.rw_docrule.specs.Models.{document_lists, IsSound};
+ghost use Rattle.rw_app.specs.Answers.{IsAnswer, IsAnswerTo, checked, listed, refusal as refusal_of};
 ghost use Rattle.rw_app.specs.AnswerTexts.{text_of_answer};
 ghost use Rattle.rw_app.specs.Commands.{asked_for, matches};
 ghost use Rattle.rw_app.specs.Kept.{named_goals};
 
+use crate::counts::{lengths_of, sizes_of};
+use crate::kept::kept_lists;
 use crate::named::{Named, goal_named};
 use crate::runner::run_document;
 use crate::{Command, Status};
-use rw_doc::{DocFault, Document, ReadDocEnd, read_document};
+use rw_doc::{DocFault, ReadDocEnd};
+use rw_docrule::{Document, read_document};
 use rw_lists::fresh_list;
-use rw_print::{fault_line, matches_line};
+use rw_print::{check_line, fault_line, matches_line};
 use rw_schema::{OutOfMemory, Section};
 use std::alloc::Global;
 
@@ -55,6 +58,7 @@ fn answer_about(
     match command {
         Command::Matches(name) => list_matches(alloc, name, document),
         Command::Run { fuel, seed: _ } => run_document(alloc, document, fuel),
+        Command::Check => check_document(alloc, document),
     }
 }
 
@@ -86,6 +90,21 @@ fn list_goal(alloc: Global, document: &Document, named: Named<'_>) -> Result<Ans
 {
     let tuples = fresh_list(alloc, &document.schema, named.goal, &document.table)?;
     let text = matches_line(alloc, named.name, &tuples)?;
+    Ok(Answer {
+        status: Status::Done,
+        text,
+    })
+}
+
+/// The lengths of the kept lists, and the numbers of parts.
+fn check_document(alloc: Global, document: &Document) -> Result<Answer, OutOfMemory>
+    requires { IsSound (document_lists document.now) }
+    ensures { IfOk result (λ answer. text_of_answer answer ≡ checked (document_lists document.now)) }
+{
+    let kept = kept_lists(alloc, document, &document.table)?;
+    let lists = lengths_of(alloc, kept.as_slice())?;
+    let sizes = sizes_of(alloc, document.table.rows())?;
+    let text = check_line(alloc, &lists, &sizes)?;
     Ok(Answer {
         status: Status::Done,
         text,

@@ -13,6 +13,8 @@ pub enum Command<'a> {
     Matches(&'a str),
     /// A run with so much fuel, by the stream of the seed. No box draws from the stream yet.
     Run { fuel: u32, seed: u64 },
+    /// The lengths of the kept lists, and the numbers of parts.
+    Check,
 }
 
 /// The line that is written where the words are those of no command.
@@ -30,6 +32,7 @@ pub(crate) fn command_of(words: &Vec<String>) -> Option<Command<'_>>
     match word.as_str() {
         "matches" => matches_command(others),
         "run" => run_command(others),
+        "check" => check_command(others),
         _ => None,
     }
 }
@@ -40,6 +43,16 @@ fn matches_command(words: &[String]) -> Option<Command<'_>>
 {
     match words {
         [name] => Some(Command::Matches(name.as_str())),
+        _ => None,
+    }
+}
+
+/// The command `check` with these words behind it: none.
+fn check_command<'a>(words: &[String]) -> Option<Command<'a>>
+    ensures { option_map asked_for result ≡ request_of (codes "check" ∷ map string_bytes words.now) }
+{
+    match words {
+        [] => Some(Command::Check),
         _ => None,
     }
 }

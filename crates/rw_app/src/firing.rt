@@ -4,7 +4,7 @@ ghost use Rattle.std.specs.Prelude.{◌≡◌, ◌∷◌, IfOk, List, Some, None
 ghost use Rattle.std.specs.List.{All};
 ghost use Rattle.rw_schema.specs.Presentation.{signature_of};
 ghost use Rattle.rw_rule.specs.RuleLists.{RuleLists};
-ghost use Rattle.rw_doc.specs.Models.{document_lists, IsSound};
+ghost use Rattle.rw_docrule.specs.Models.{document_lists, IsSound};
 ghost use Rattle.rw_print.specs.Lines.{IsKnown};
 ghost use Rattle.rw_app.specs.Picked.{IsPick};
 ghost use Rattle.rw_app.specs.Runners.{IsFiring, IsWorld};
@@ -13,7 +13,7 @@ ghost use Rattle.rw_app.specs.Runs.{Firing};
 use crate::kept::kept_lists;
 use crate::pick::{Applied, Pick, pick_first};
 use crate::world::World;
-use rw_doc::Document;
+use rw_docrule::Document;
 use rw_lists::{ListsNews, differences};
 use rw_pattern::Tuple;
 use rw_print::step_line;

@@ -8,10 +8,10 @@ ghost use Rattle.rw_rule.specs.RuleFaults.{IsGoalOver, IsRuleOver};
 ghost use Rattle.rw_rule.specs.RuleLists.{RuleLists};
 ghost use Rattle.rw_rule.specs.RuleParts.{goal_of_parts};
 ghost use Rattle.rw_lists.specs.Fresh.{fresh_list as fresh_list_of};
-ghost use Rattle.rw_doc.specs.Models.{document_lists, IsSound};
+ghost use Rattle.rw_docrule.specs.Models.{document_lists, IsSound};
 ghost use Rattle.rw_app.specs.Kept.{lists_in};
 
-use rw_doc::Document;
+use rw_docrule::Document;
 use rw_lists::fresh_list;
 use rw_pattern::Tuple;
 use rw_rule::{Rule, Watch};

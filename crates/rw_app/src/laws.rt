@@ -1,9 +1,9 @@
 //! Laws of runs.
 
-ghost use Rattle.rw_doc.specs.Models.{document_lists};
+ghost use Rattle.rw_docrule.specs.Models.{document_lists};
 ghost use Rattle.rw_app.specs.OneRun.{HasOneRun};
 
-use rw_doc::Document;
+use rw_docrule::Document;
 
 /// A document has exactly one run with so much fuel, so its text is determined. The call does nothing: its contract is
 /// the law.

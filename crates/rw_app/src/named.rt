@@ -6,10 +6,10 @@ ghost use Rattle.std.specs.Str.{bytes_eq};
 ghost use Rattle.rw_schema.specs.Presentation.{signature_of};
 ghost use Rattle.rw_rule.specs.RuleFaults.{IsGoalOver};
 ghost use Rattle.rw_rule.specs.RuleParts.{goal_of_parts};
-ghost use Rattle.rw_doc.specs.Models.{document_lists, IsSound};
+ghost use Rattle.rw_docrule.specs.Models.{document_lists, IsSound};
 ghost use Rattle.rw_app.specs.Kept.{named_goals};
 
-use rw_doc::Document;
+use rw_docrule::Document;
 use rw_rule::{Goal, Rule, Watch};
 use rw_schema::Text;
 

@@ -41,7 +41,7 @@ pub(crate) fn pick_first(
 ) -> Result<Pick, OutOfMemory>
     requires table { IsOver schema.now table.now }
     requires rule { IsRuleOver (signature_of schema.now) rule.now }
-    requires plain { is_plain rule.now ≡ true }
+    requires plain { is_plain (signature_of schema.now) rule.now ≡ true }
     requires found { found.now ≡ fresh_list (signature_of schema.now) (instance_of_table table.now) rule.now.goal }
     ensures pick { IfOk result (IsPick (signature_of schema.now) rule.now table.now.rows) }
     ensures known { IfOk result (λ pick. All (λ entry. IsKnown schema.now entry.1) pick.refused.items) }

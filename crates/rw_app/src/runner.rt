@@ -3,7 +3,7 @@
 ghost use Rattle.std.specs.Prelude.{◌≡◌, ◌++◌, ◌∷◌, ℕ, IfOk, List, Ok, map, length};
 ghost use Rattle.rw_table.specs.Tabled.{IsOver};
 ghost use Rattle.rw_rule.specs.RuleLists.{RuleLists};
-ghost use Rattle.rw_doc.specs.Models.{document_lists, IsSound};
+ghost use Rattle.rw_docrule.specs.Models.{document_lists, IsSound};
 ghost use Rattle.rw_print.specs.Lines.{line, end_data};
 ghost use Rattle.rw_app.specs.Answers.{IsAnswerTo, status_of_end as status_of_run};
 ghost use Rattle.rw_app.specs.AnswerTexts.{text_of_answer};
@@ -17,7 +17,7 @@ use crate::answer::Answer;
 use crate::counts::{lengths_of, sizes_of};
 use crate::firing::{Fired, fire};
 use crate::world::{World, load};
-use rw_doc::Document;
+use rw_docrule::Document;
 use rw_print::{End, end_line};
 use rw_rule::Rule;
 use rw_schema::{MOST_OBJECTS, OutOfMemory, Schema};

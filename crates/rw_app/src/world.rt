@@ -1,11 +1,11 @@
 //! The state of a run.
 
 ghost use Rattle.std.specs.Prelude.{◌≡◌, IfOk};
-ghost use Rattle.rw_doc.specs.Models.{document_lists, IsSound};
+ghost use Rattle.rw_docrule.specs.Models.{document_lists, IsSound};
 ghost use Rattle.rw_app.specs.Runners.{IsWorld};
 
 use crate::kept::kept_lists;
-use rw_doc::Document;
+use rw_docrule::Document;
 use rw_pattern::Tuple;
 use rw_schema::OutOfMemory;
 use rw_table::Table;

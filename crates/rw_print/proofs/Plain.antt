@@ -7,7 +7,7 @@ use Rattle.rw_rule.specs.declared.refusal.Refusal.{Refusal}
 use Rattle.rw_rule.specs.declared.refusal.Refusal.TheVariants.{Dangling, TooLarge}
 use Rattle.rw_lists.specs.News.{NewsLists}
 use Rattle.rw_print.specs.declared.last.End.{End}
-use Rattle.rw_print.specs.Lines.{list_data, tuple_data, matches_data, count_data, refusal_data, refused_data, news_data, applied_data, step_data, end_data}
+use Rattle.rw_print.specs.Lines.{list_data, tuple_data, matches_data, count_data, refusal_data, refused_data, news_data, applied_data, step_data, check_data, end_data}
 
 -- a list has no float where no item has one
 pub no_float_in : {X : Type 0} (value : X → Data) (xs : List X) → ((x : X) → has_float (value x) ≡ false)
@@ -53,6 +53,10 @@ no_float_in_step schema place rule applied lists refused =
     let in_refused : has_float (list_data (map (refused_data schema) refused)) ≡ false =
     no_float_in (refused_data schema) refused (no_float_in_refused schema) in
     rw (in_lists, no_float_in_applied applied, in_refused) refl
+
+-- the line of a check has no float
+pub no_float_in_check : (lists sizes : List ℕ) → has_float (check_data lists sizes) ≡ false
+no_float_in_check lists sizes = rw (no_float_in_counts lists, no_float_in_counts sizes) refl
 
 -- the line of an end has no float
 pub no_float_in_end : (end : End) (fuel : ℕ) (lists sizes : List ℕ) → has_float (end_data end fuel lists sizes) ≡ false

@@ -41,6 +41,11 @@ fault_data code section first second third =
     object (member (codes "at") (list_data (count_data first ∷ count_data second ∷ count_data third ∷ []))
     (member (codes "fault") (count_data code) (member (codes "section") (string (name_of_section section)) no_members)))
 
+-- {"lists":[length,..],"sizes":[count,..]}
+abbrev pub check_data : List ℕ → List ℕ → Data
+check_data lists sizes =
+    object (member (codes "lists") (list_data (map count_data lists)) (member (codes "sizes") (list_data (map count_data sizes)) no_members))
+
 -- ---- the lines of a run
 
 abbrev pub name_of_object : Presentation → ObjectId → List ℕ

@@ -1,6 +1,7 @@
 //! The lines that the program prints: each is the compact text of one JSON value and a line feed.
 #![tactic(auto)]
 
+mod check;
 mod fault;
 mod last;
 mod line;
@@ -9,6 +10,7 @@ mod news;
 mod refused;
 mod step;
 
+pub use check::check_line;
 pub use fault::fault_line;
 pub use last::{End, end_line};
 pub use matches::matches_line;

@@ -27,7 +27,15 @@ fn graphs(rt: &impl Abort, alloc: Global) -> Result<Schema, Fail>
             target: ObjectId(0),
         })?;
     }
-    let schema = Schema::build(alloc, SchemaParts { objects, arrows })?;
+    let schema = Schema::build(
+        alloc,
+        SchemaParts {
+            objects,
+            arrows,
+            attributes: Vec::new(alloc),
+            equations: Vec::new(alloc),
+        },
+    )?;
     assert_eq!(rt; schema.objects(), 2);
     assert_eq!(rt; schema.arrows(), 2);
     Ok(schema)
@@ -68,6 +76,17 @@ fn a_step_is_printed(rt: HostRuntime) -> Result<(), Fail> {
     let line = step_line(alloc, &schema, 3, &rule, None, &news(alloc)?, &refused)?;
     let text =
         "{\"box\":3,\"lists\":[[1,[[0]],[[7]]]],\"match\":null,\"refused\":[[[2,0],[\"dangling\",\"tgt\",0]],[[],[\"too_large\",\"V\"]]],\"rule\":\"clear\"}\n";
+    assert!(rt; line.as_slice() == text.as_bytes());
+    Ok(())
+}
+
+#[test]
+fn a_check_is_printed(rt: HostRuntime) -> Result<(), Fail> {
+    let alloc = rt.alloc();
+    let lists = vec![in alloc; 2, 18446744073709551615]?;
+    let sizes = vec![in alloc; 3]?;
+    let line = check_line(alloc, &lists, &sizes)?;
+    let text = "{\"lists\":[2,18446744073709551615],\"sizes\":[3]}\n";
     assert!(rt; line.as_slice() == text.as_bytes());
     Ok(())
 }

@@ -1,5 +1,5 @@
 use Rattle.std.proofs.lemmas.Result.{IfOk-weaker}
-use Rattle.rw_doc.specs.Models.{document_lists}
+use Rattle.rw_docrule.specs.Models.{document_lists}
 use Rattle.rw_app.proofs.Telling.{run_told}
 use Rattle.rw_app.proofs.runner.run_document.Goals as goal
 

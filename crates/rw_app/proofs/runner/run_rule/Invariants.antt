@@ -1,6 +1,6 @@
 -- The firings so far lead to the present state, from which each run goes on.
 use Rattle.std.proofs.Common.{List}
-use Rattle.rw_doc.specs.Models.{document_lists}
+use Rattle.rw_docrule.specs.Models.{document_lists}
 use Rattle.rw_app.specs.Runners.{HasBegun, IsWorld}
 use Rattle.rw_app.specs.Runs.{Firing}
 use Rattle.rw_app.proofs.runner.run_rule.Given as goal
