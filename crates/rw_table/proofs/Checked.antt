@@ -4,15 +4,19 @@ use Rattle.std.specs.List.{Contains, list_any, list_all}
 use Rattle.std.proofs.lemmas.Bool.{and_parts, eqb-true, cases_lt}
 use Rattle.std.proofs.lemmas.List.{get_or_past}
 use Rattle.std.proofs.lemmas.Option.{slice_get-get_or}
+use Rattle.rw_schema.specs.declared.atom.Atom.{Atom}
+use Rattle.rw_schema.specs.declared.parts.Equation as equations
 use Rattle.rw_schema.specs.declared.signature.ArrowEnds.{ArrowEnds}
+use Rattle.rw_schema.specs.declared.signature.AttrEnds.{AttrEnds}
 use Rattle.rw_schema.specs.First.{or_else, first_in, fault_unless, all_in}
 use Rattle.rw_schema.specs.RowLists.{RowLists, list_at}
 use Rattle.rw_schema.specs.Signature.{Signature}
 use Rattle.rw_schema.proofs.Firsts.{or_else_none, first_none, passed_unless}
 use Rattle.rw_spec.specs.Distinct.{AreDistinct}
+use Rattle.rw_spec.specs.Instance.{Has, follow, agrees_at, instance_of}
 use Rattle.rw_spec.proofs.Look.{contains_found}
-use Rattle.rw_table.specs.TableFaults.{has_length, has_shape, ascends, are_names, names_fault, row_fault, range_fault, table_fault}
-use Rattle.rw_table.specs.declared.fault.TableFault.TheVariants.{Shape, Names, Range}
+use Rattle.rw_table.specs.TableFaults.{has_length, has_cells, has_shape, ascends, are_names, names_fault, row_fault, range_fault, is_cell_of, cell_fault, kind_fault, failure_of, equation_fault, table_fault}
+use Rattle.rw_table.specs.declared.fault.TableFault.TheVariants.{Shape, Names, Range, Kind, Equation}
 use Rattle.rw_table.proofs.Ascending.{ascends_distinct}
 
 -- what a test with places says of the item at a place
@@ -35,7 +39,9 @@ pub record AreShaped (C : Signature) (rows : RowLists) : Type 0 where
   pub names : length rows.names ≡ C.objects
   pub next : length rows.next ≡ C.objects
   pub arrows : length rows.arrows ≡ length C.arrows
+  pub cells : length rows.cells ≡ length C.attributes
   pub whole : all_in (has_length rows) 0 C.arrows ≡ true
+  pub whole_cells : all_in (has_cells rows) 0 C.attributes ≡ true
 
 pub shape_known : (C : Signature) (rows : RowLists) → has_shape C rows ≡ true → AreShaped C rows
 shape_known C rows shaped = grind arith
@@ -45,12 +51,17 @@ pub record AreChecked (C : Signature) (rows : RowLists) : Type 0 where
   pub shape : has_shape C rows ≡ true
   pub names : names_fault rows ≡ None
   pub range : range_fault C rows ≡ None
+  pub kinds : kind_fault C rows ≡ None
+  pub equations : equation_fault C rows ≡ None
 
 pub checked_known : (C : Signature) (rows : RowLists) → table_fault C rows ≡ None → AreChecked C rows
 checked_known C rows none =
-    let parts = or_else_none (fault_unless (has_shape C rows) Shape) (or_else (names_fault rows) (range_fault C rows)) none in
-    let more = or_else_none (names_fault rows) (range_fault C rows) parts.1 in
-    record { shape = passed_unless (has_shape C rows) Shape parts.0; names = more.0; range = more.1 }
+    let last = or_else (kind_fault C rows) (equation_fault C rows) in
+    let shaped = or_else_none (fault_unless (has_shape C rows) Shape) (or_else (names_fault rows) (or_else (range_fault C rows) last)) none in
+    let named = or_else_none (names_fault rows) (or_else (range_fault C rows) last) shaped.1 in
+    let ranged = or_else_none (range_fault C rows) last named.1 in
+    let kept = or_else_none (kind_fault C rows) (equation_fault C rows) ranged.1 in
+    record { shape = passed_unless (has_shape C rows) Shape shaped.0; names = named.0; range = ranged.0; kinds = kept.0; equations = kept.1 }
 
 -- each row has one image for each name of its arrow's source
 pub row_whole : (C : Signature) (rows : RowLists) (a : ℕ) (ends : ArrowEnds) → has_shape C rows ≡ true → slice_get C.arrows a ≡ Some ends
@@ -58,6 +69,13 @@ pub row_whole : (C : Signature) (rows : RowLists) (a : ℕ) (ends : ArrowEnds) �
 row_whole C rows a ends shaped there =
     let whole : has_length rows a ends ≡ true = subst (λ place. has_length rows place ends ≡ true) (zero-add a) (all_in_at (has_length rows) 0 C.arrows (shape_known C rows shaped).whole a ends there) in
     eqb-true (length (list_at rows.arrows a)) (length (list_at rows.names ends.source.0)) whole
+
+-- there is one cell for each name of an attribute's object
+pub cells_whole : (C : Signature) (rows : RowLists) (c : ℕ) (ends : AttrEnds) → has_shape C rows ≡ true → slice_get C.attributes c ≡ Some ends
+    → length (list_at rows.cells c) ≡ length (list_at rows.names ends.object.0)
+cells_whole C rows c ends shaped there =
+    let whole : has_cells rows c ends ≡ true = subst (λ place. has_cells rows place ends ≡ true) (zero-add c) (all_in_at (has_cells rows) 0 C.attributes (shape_known C rows shaped).whole_cells c ends there) in
+    eqb-true (length (list_at rows.cells c)) (length (list_at rows.names ends.object.0)) whole
 
 -- the names of each object ascend; those of a number that is no object are none
 pub names_ascend : (rows : RowLists) (object : ℕ) → names_fault rows ≡ None → ascends (list_at rows.names object) ≡ true
@@ -86,3 +104,24 @@ images_named C rows a ends image none there (k, within, is) =
     let found : slice_get row k ≡ Some image = slice_get-get_or row k image within ∙ ap Some is in
     let passed = none_at (λ position image. fault_unless (list_any (λ name. name == image) names) (Range (record { 0 = a }) position)) row k image row_none found in
     contains_found names image (passed_unless (list_any (λ name. name == image) names) (Range (record { 0 = a }) k) passed)
+
+-- each cell is blank, or its atom is of the attribute's kind
+pub cells_kept : (C : Signature) (rows : RowLists) (c : ℕ) (ends : AttrEnds) (cell : Option Atom) → kind_fault C rows ≡ None → slice_get C.attributes c ≡ Some ends
+    → Contains (list_at rows.cells c) cell → is_cell_of ends.kind cell ≡ true
+cells_kept C rows c ends cell none there (k, within, is) =
+    let cells = list_at rows.cells c in
+    let cells_none : cell_fault rows c ends ≡ None = none_at (cell_fault rows) C.attributes c ends none there in
+    let found : slice_get cells k ≡ Some cell = slice_get-get_or cells k cell within ∙ ap Some is in
+    let passed = none_at (λ position cell. fault_unless (is_cell_of ends.kind cell) (Kind (record { 0 = c }) position)) cells k cell cells_none found in
+    passed_unless (is_cell_of ends.kind cell) (Kind (record { 0 = c }) k) passed
+
+-- both sides of each equation lead from each name to one name
+pub sides_agree : (C : Signature) (rows : RowLists) (e : ℕ) (equation : equations.Equation) (name : ℕ) → equation_fault C rows ≡ None → slice_get C.equations e ≡ Some equation
+    → Has (instance_of C rows) equation.object.0 name → follow (instance_of C rows) equation.left name ≡ follow (instance_of C rows) equation.right name
+sides_agree C rows e equation name none there (k, within, is) =
+    let X = instance_of C rows in
+    let names = list_at rows.names equation.object.0 in
+    let holds : failure_of X e equation ≡ None = none_at (failure_of X) C.equations e equation none there in
+    let found : slice_get names k ≡ Some name = slice_get-get_or names k name within ∙ ap Some is in
+    let passed = none_at (λ position each. fault_unless (agrees_at X equation each) (Equation e each)) names k name holds found in
+    eqb-true (follow X equation.left name) (follow X equation.right name) (passed_unless (agrees_at X equation name) (Equation e name) passed)

@@ -3,7 +3,7 @@ use Rattle.std.proofs.Common.{◌≡◌, ℕ, List, [], ◌∷◌, Some, None, r
 use Rattle.rw_schema.specs.declared.signature.ArrowEnds.{ArrowEnds}
 use Rattle.rw_schema.specs.RowLists.{RowLists}
 use Rattle.rw_schema.specs.Signature.{Signature}
-use Rattle.rw_table.specs.Tabled.{Tabled, plain_signature, value_at}
+use Rattle.rw_table.specs.Tabled.{Tabled, value_at}
 use Rattle.rw_table.specs.TableFaults.{table_fault}
 use Rattle.rw_table.specs.declared.fault.TableFault.TheVariants.{Shape, Names, Range}
 
@@ -11,7 +11,7 @@ abbrev edge_to_vertex : ArrowEnds
 edge_to_vertex = record { source = record { 0 = 1 }; target = record { 0 = 0 } }
 
 abbrev graph : Signature
-graph = plain_signature 2 (edge_to_vertex ∷ edge_to_vertex ∷ [])
+graph = record { objects = 2; arrows = edge_to_vertex ∷ edge_to_vertex ∷ []; attributes = []; equations = [] }
 
 abbrev rows_of : List ℕ → List ℕ → List ℕ → List ℕ → List ℕ → RowLists
 rows_of vertices edges sources targets next = record {

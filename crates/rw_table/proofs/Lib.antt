@@ -1,3 +1,4 @@
+pub mod Along
 pub mod Ascending
 pub mod Checked
 mod Examples

@@ -1,11 +1,11 @@
 -- The place of a name among names, and the entry beside it.
 use Rattle.std.proofs.Common.{◌≡◌, ◌==◌, ◌∙◌, ℕ, suc, ◌+◌, ◌<◌, Bool, true, false, cond, if◌then◌else◌, nat_lt, List, [], ◌∷◌, length, get_or, slice_get, position, Some, None, refl, sym, ap, inl, inr, arith, Result, Ok, Err}
 use Rattle.std.specs.List.{list_any, position_or_len}
-use Rattle.std.specs.Option.{is_some}
+use Rattle.std.specs.Option.{is_some, unwrap_or}
 use Rattle.std.specs.List.Sorted.{IsBinarySearchResult}
 use Rattle.std.specs.Ordering.{nat_cmp}
 use Rattle.std.specs.Result.{result_ok}
-use Rattle.std.proofs.lemmas.Bool.{eqb-true, eqb-false, eq-eqb, ne_eqb, cases_Bool, cases_lt, lt-ltb, le-ltb}
+use Rattle.std.proofs.lemmas.Bool.{eqb-true, eqb-false, eq-eqb, ne_eqb, both_ways, cases_Bool, cases_lt, lt-ltb, le-ltb}
 use Rattle.std.proofs.lemmas.Bool.Decides.{nat_tests}
 use Rattle.std.proofs.lemmas.List.Sorted.{searched}
 use Rattle.std.proofs.lemmas.Option.{slice_get_within, slice_get-get_or, get_or_from_slice_get}
@@ -13,7 +13,7 @@ use Rattle.std.proofs.lemmas.List.Sums.{position_or_len_is}
 use Rattle.std.proofs.lemmas.List.Quantifiers.{position-Some}
 use Rattle.std.proofs.lemmas.List.Folds.{list_any_at}
 use Rattle.rw_spec.specs.Instance.{look}
-use Rattle.rw_spec.proofs.Look.{look_first}
+use Rattle.rw_spec.proofs.Look.{look_first, look_missing, found_contained}
 use Rattle.rw_table.specs.TableFaults.{ascends}
 use Rattle.rw_table.proofs.Ascending.{ascends_apart, ascends_far}
 
@@ -77,18 +77,32 @@ place_searched names name (Err k) up is =
     ])))
 
 -- the entry at the place of a name is the entry beside it
-pub entry_found : (names entries : List ℕ) (name k : ℕ) → position (λ other. other == name) names ≡ Some k
-    → Some (get_or entries k 0) ≡ (if list_any (λ other. other == name) names then Some (look 0 names entries name) else None)
-entry_found names entries name k found =
+pub entry_found : {A : Type 0} (none : A) (names : List ℕ) (entries : List A) (name k : ℕ) → position (λ other. other == name) names ≡ Some k
+    → Some (get_or entries k none) ≡ (if list_any (λ other. other == name) names then Some (look none names entries name) else None)
+entry_found none names entries name k found =
     let at = position-Some (λ other. other == name) names k 0 found in
     let among : list_any (λ other. other == name) names ≡ true = list_any_at (λ other. other == name) names k 0 at.0 at.1 in
-    let beside : look 0 names entries name ≡ get_or entries k 0 =
-    look_first 0 names entries name k at.0 (eqb-true (get_or names k 0) name at.1) (λ j below. eqb-false (get_or names j 0) name (at.2 j below)) in
+    let beside : look none names entries name ≡ get_or entries k none =
+    look_first none names entries name k at.0 (eqb-true (get_or names k 0) name at.1) (λ j below. eqb-false (get_or names j 0) name (at.2 j below)) in
     rw (among, beside) refl
 
 -- no entry is beside a name that has no place
-pub entry_missing : (names entries : List ℕ) (name : ℕ) → position (λ other. other == name) names ≡ None
-    → None ≡ (if list_any (λ other. other == name) names then Some (look 0 names entries name) else None)
-entry_missing names entries name missing =
+pub entry_missing : {A : Type 0} (none : A) (names : List ℕ) (entries : List A) (name : ℕ) → position (λ other. other == name) names ≡ None
+    → None ≡ (if list_any (λ other. other == name) names then Some (look none names entries name) else None)
+entry_missing none names entries name missing =
     let among : list_any (λ other. other == name) names ≡ false = sym (place_found (λ other. other == name) names) ∙ ap is_some missing in
     rw among refl
+
+-- the entry beside a name, or the one given where the name has no place, is what is looked up
+pub entry_or : {A : Type 0} (none : A) (names : List ℕ) (entries : List A) (name : ℕ)
+    → unwrap_or (if list_any (λ other. other == name) names then Some (look none names entries name) else None) none ≡ look none names entries name
+entry_or none names entries name =
+    elim (cases_Bool (list_any (λ other. other == name) names)) [
+      | inl among ↦ rw among refl
+      | inr missing ↦ rw missing (sym (look_missing none names entries name (λ contains. both_ways (list_any (λ other. other == name) names) missing (found_contained names name contains))))
+    ]
+
+-- where no entry is beside a name, the one given is what is looked up
+pub entry_none : {A : Type 0} (none : A) (names : List ℕ) (entries : List A) (name : ℕ)
+    → None ≡ (if list_any (λ other. other == name) names then Some (look none names entries name) else None) → none ≡ look none names entries name
+entry_none none names entries name missing = ap (λ found. unwrap_or found none) missing ∙ entry_or none names entries name

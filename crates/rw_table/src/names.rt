@@ -1,6 +1,6 @@
 //! Whether the names of each object ascend strictly, below its next name.
 
-ghost use Rattle.std.specs.Prelude.{◌≡◌, ◌≤◌, length, nat_lt};
+ghost use Rattle.std.specs.Prelude.{◌≡◌, ◌≤◌, ◌^◌, true, length, nat_lt};
 ghost use Rattle.std.specs.List.{list_all};
 ghost use Rattle.rw_table.specs.TableFaults.{ascends, are_names, names_fault};
 
@@ -41,4 +41,13 @@ fn are_less(names: &[u32], bound: u32) -> bool
     ensures { result ≡ list_all (λ name. nat_lt name bound) names.now }
 {
     names.iter().all(|name| *name < bound)
+}
+
+/// The number of names. They are different numbers of 32 bits.
+pub fn count_of(names: &[u32]) -> usize
+    requires { ascends names.now ≡ true }
+    ensures value { result ≡ length names.now }
+    ensures few { result ≤ 2 ^ 32 }
+{
+    names.len()
 }

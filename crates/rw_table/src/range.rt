@@ -3,16 +3,15 @@
 ghost use Rattle.std.specs.Prelude.{◌≡◌, ◌==◌, ◌<◌, ◌≤◌, ◌^◌, true, IfOk, None, length, map};
 ghost use Rattle.std.specs.List.{list_any};
 ghost use Rattle.rw_schema.specs.First.{first_in, fault_unless};
-ghost use Rattle.rw_schema.specs.Presentation.{ends_of_arrow};
+ghost use Rattle.rw_schema.specs.Presentation.{signature_of, ends_of_arrow};
 ghost use Rattle.rw_schema.specs.RowLists.{list_at};
-ghost use Rattle.rw_schema.specs.Signature.{IsCategory};
-ghost use Rattle.rw_table.specs.Tabled.{plain_signature};
 ghost use Rattle.rw_table.specs.TableFaults.{ascends, has_shape, names_fault, row_fault, range_fault};
 ghost use Rattle.rw_table.specs.declared.fault.TableFault.TheVariants.{Range};
 
 use crate::TableFault;
 use crate::beside::has_name;
-use rw_schema::{ArrowDef, ArrowEnds, ArrowId, OutOfMemory, Rows};
+use crate::names::count_of;
+use rw_schema::{ArrowDef, ArrowEnds, ArrowId, OutOfMemory, Rows, Schema};
 use std::alloc::Global;
 
 /// The ends of the arrows, in order.
@@ -23,6 +22,7 @@ pub fn arrow_ends(alloc: Global, arrows: &[ArrowDef]) -> Result<Vec<ArrowEnds>, 
     Ok(ends)
 }
 
+/// The ends of the arrow.
 fn ends_of(arrow: &ArrowDef) -> ArrowEnds
     ensures { result ≡ ends_of_arrow arrow.now }
 {
@@ -33,15 +33,14 @@ fn ends_of(arrow: &ArrowDef) -> ArrowEnds
 }
 
 /// The first image that is no name of its arrow's target.
-pub fn first_range_fault(arrows: &[ArrowEnds], rows: &Rows) -> Option<TableFault>
-    requires few { length arrows.now ≤ 256 }
-    requires category { IsCategory (plain_signature (length rows.now.names) arrows.now) }
-    requires shape { has_shape (plain_signature (length rows.now.names) arrows.now) rows.now ≡ true }
+pub fn first_range_fault(schema: &Schema, rows: &Rows) -> Option<TableFault>
+    requires shape { has_shape (signature_of schema.now) rows.now ≡ true }
     requires names { names_fault rows.now ≡ None }
-    ensures { result ≡ range_fault (plain_signature (length rows.now.names) arrows.now) rows.now }
+    ensures { result ≡ range_fault (signature_of schema.now) rows.now }
 {
-    for (place, ends) in arrows.iter().enumerate() {
-        if let Some(fault) = first_row_fault(rows, ArrowId(place as u16), *ends) {
+    let arrows = schema.arrow_list();
+    for (place, arrow) in arrows.iter().enumerate() {
+        if let Some(fault) = first_row_fault(rows, ArrowId(place as u16), ends_of(arrow)) {
             return Some(fault);
         }
     }
@@ -63,15 +62,6 @@ fn first_row_fault(rows: &Rows, arrow: ArrowId, ends: ArrowEnds) -> Option<Table
     let count = count_of(sources);
     prove!(images.len() == count);
     first_stray(arrow, targets, images)
-}
-
-/// The number of names. They are different numbers of 32 bits.
-fn count_of(names: &[u32]) -> usize
-    requires { ascends names.now ≡ true }
-    ensures value { result ≡ length names.now }
-    ensures few { result ≤ 2 ^ 32 }
-{
-    names.len()
 }
 
 /// The first image that is none of the names.

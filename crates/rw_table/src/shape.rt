@@ -3,22 +3,27 @@
 ghost use Rattle.std.specs.Prelude.{◌≡◌, ◌<◌, ◌≤◌, true, length, map};
 ghost use Rattle.std.specs.List.{list_all};
 ghost use Rattle.rw_schema.specs.First.{all_in};
-ghost use Rattle.rw_schema.specs.Presentation.{signature_of, ends_of_arrow};
-ghost use Rattle.rw_schema.specs.SchemaFaults.{has_ends};
-ghost use Rattle.rw_table.specs.TableFaults.{has_shape, has_length};
+ghost use Rattle.rw_schema.specs.Presentation.{signature_of, ends_of_arrow, ends_of_attribute};
+ghost use Rattle.rw_schema.specs.SchemaFaults.{has_ends, has_holder};
+ghost use Rattle.rw_table.specs.TableFaults.{has_shape, has_length, has_cells};
 
-use rw_schema::{ArrowDef, ArrowId, Rows, Schema};
+use rw_schema::{ArrowDef, ArrowId, AttrDef, AttrId, Rows, Schema};
 
-/// Whether there is a list for each object and arrow, and an image for each name of an arrow's source.
+/// Whether there is a list for each object, arrow and attribute, an image for each name of an arrow's source, and a
+/// cell for each name of an attribute's object.
 pub fn are_shaped(schema: &Schema, rows: &Rows) -> bool
-    ensures { result ≡ has_shape (signature_of schema.now) rows.now }
+    ensures value { result ≡ has_shape (signature_of schema.now) rows.now }
+    ensures few { result ≡ true → length rows.now.names ≤ 64 }
 {
     let objects = schema.objects();
     let arrows = schema.arrow_list();
+    let attributes = schema.attribute_list();
     rows.name_lists() == objects
         && rows.next_names() == objects
         && rows.row_lists() == arrows.len()
+        && rows.cell_lists() == attributes.len()
         && are_rows_whole(rows, arrows)
+        && are_cells_whole(rows, attributes)
 }
 
 /// Whether each row has one image for each name of its arrow's source.
@@ -43,4 +48,28 @@ fn is_row_whole(rows: &Rows, place: ArrowId, arrow: &ArrowDef) -> bool
     ensures { result ≡ has_length rows.now place.0 (ends_of_arrow arrow.now) }
 {
     rows.row(place).len() == rows.names(arrow.source).len()
+}
+
+/// Whether each attribute has one cell for each name of its object.
+fn are_cells_whole(rows: &Rows, attributes: &[AttrDef]) -> bool
+    requires few { length attributes.now ≤ 256 }
+    requires holders { list_all (has_holder (length rows.now.names)) attributes.now ≡ true }
+    requires cells { length rows.now.cells ≡ length attributes.now }
+    ensures { result ≡ all_in (has_cells rows.now) 0 (map ends_of_attribute attributes.now) }
+{
+    for (place, attribute) in attributes.iter().enumerate() {
+        if !has_whole_cells(rows, AttrId(place as u16), attribute) {
+            return false;
+        }
+    }
+    true
+}
+
+/// Whether the attribute has one cell for each name of its object.
+fn has_whole_cells(rows: &Rows, place: AttrId, attribute: &AttrDef) -> bool
+    requires holder { attribute.now.object.0 < length rows.now.names }
+    requires cells { place.0 < length rows.now.cells }
+    ensures { result ≡ has_cells rows.now place.0 (ends_of_attribute attribute.now) }
+{
+    rows.cells(place).len() == rows.names(attribute.object).len()
 }

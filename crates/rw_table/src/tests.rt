@@ -3,132 +3,236 @@
 ghost use Rattle.std.specs.Prelude.{◌≡◌, IfOk, length};
 
 use crate::{Table, TableFault};
-use rw_schema::{ArrowDef, ArrowId, ObjectId, OutOfMemory, Rows, Schema, SchemaParts, Text};
+use rw_schema::{
+    ArrowDef, ArrowId, Atom, AttrDef, AttrId, Equation, Kind, ObjectId, OutOfMemory, Path, Rows,
+    Schema, SchemaParts, Text,
+};
 use std::alloc::Global;
 use std::process::Abort;
 use std::test::Fail;
 
-/// The parts of the schema of graphs: vertices are object 0, and edges object 1.
-fn graph_parts(alloc: Global) -> Result<SchemaParts, OutOfMemory> {
+/// Lists over a schema without attributes.
+#[derive(Clone, Copy)]
+struct Lists {
+    names: &'static [&'static [u32]],
+    rows: &'static [&'static [u32]],
+    next: &'static [u32],
+}
+
+/// No list at all.
+const NOTHING: Lists = Lists {
+    names: &[],
+    rows: &[],
+    next: &[],
+};
+
+/// The path of two edges over three vertices: names of V and E, sources and targets.
+const PATH: Lists = Lists {
+    names: &[&[0, 1, 2], &[0, 1]],
+    rows: &[&[0, 1], &[1, 2]],
+    next: &[3, 2],
+};
+
+/// The path, whose second edge has no target.
+const SHORT: Lists = Lists {
+    rows: &[&[0, 1], &[1]],
+    ..PATH
+};
+
+/// The path with edges that are not numbered from 0 on.
+const GAPS: Lists = Lists {
+    names: &[&[0, 1, 2], &[7, 9]],
+    next: &[6, 10],
+    ..PATH
+};
+
+/// The path with vertices out of order, and a target that is none of them.
+const UNORDERED: Lists = Lists {
+    names: &[&[0, 2, 1], &[0, 1]],
+    rows: &[&[0, 1], &[1, 5]],
+    ..PATH
+};
+
+/// The path with a vertex that is the next name.
+const AT_NEXT: Lists = Lists {
+    next: &[2, 2],
+    ..PATH
+};
+
+/// The path with one edge twice.
+const TWICE: Lists = Lists {
+    names: &[&[0, 1, 2], &[1, 1]],
+    ..PATH
+};
+
+/// The path with a target that is no vertex.
+const OUTSIDE: Lists = Lists {
+    rows: &[&[0, 1], &[1, 3]],
+    ..PATH
+};
+
+/// Two vertices and an edge each way, each the other's inverse.
+const PAIR: Lists = Lists {
+    names: &[&[0, 1], &[0, 1]],
+    rows: &[&[0, 1], &[1, 0], &[1, 0]],
+    next: &[2, 2],
+};
+
+/// Two vertices and an edge each way, each its own inverse.
+const UNPAIRED: Lists = Lists {
+    rows: &[&[0, 1], &[1, 0], &[0, 1]],
+    ..PAIR
+};
+
+/// The parts with these objects and arrows; an arrow is its name, its source and its target.
+fn parts_of(
+    alloc: Global,
+    objects: &[&str],
+    arrows: &[(&str, u16, u16)],
+) -> Result<SchemaParts, OutOfMemory> {
     let mut parts = SchemaParts {
         objects: Vec::new(alloc),
         arrows: Vec::new(alloc),
+        attributes: Vec::new(alloc),
+        equations: Vec::new(alloc),
     };
-    for name in ["V", "E"] {
+    for name in objects {
         parts.objects.push(Text::of(alloc, name)?)?;
     }
-    for name in ["src", "tgt"] {
+    for (name, source, target) in arrows {
         parts.arrows.push(ArrowDef {
             name: Text::of(alloc, name)?,
-            source: ObjectId(1),
-            target: ObjectId(0),
+            source: ObjectId(*source),
+            target: ObjectId(*target),
         })?;
     }
     Ok(parts)
 }
 
-/// A graph of three vertices and two edges.
-#[derive(Clone, Copy)]
-struct Graph {
-    vertices: [u32; 3],
-    edges: [u32; 2],
-    sources: [u32; 2],
-    targets: [u32; 2],
-    next: [u32; 2],
+/// The schema of graphs: vertices are object 0, and edges object 1.
+fn graphs(alloc: Global) -> Result<Schema, Fail> {
+    let parts = parts_of(alloc, &["V", "E"], &[("src", 1, 0), ("tgt", 1, 0)])?;
+    Ok(Schema::build(alloc, parts)?)
 }
 
-/// The path of two edges over three vertices.
-const PATH: Graph = Graph {
-    vertices: [0, 1, 2],
-    edges: [0, 1],
-    sources: [0, 1],
-    targets: [1, 2],
-    next: [3, 2],
-};
-
-fn rows_of(alloc: Global, graph: &Graph) -> Result<Rows, OutOfMemory> {
-    let mut names = Vec::new(alloc);
-    names.push(Vec::from_slice(alloc, &graph.vertices)?)?;
-    names.push(Vec::from_slice(alloc, &graph.edges)?)?;
+/// The path of these arrows.
+fn path_of(alloc: Global, numbers: &[u16]) -> Result<Path, OutOfMemory> {
     let mut arrows = Vec::new(alloc);
-    arrows.push(Vec::from_slice(alloc, &graph.sources)?)?;
-    arrows.push(Vec::from_slice(alloc, &graph.targets)?)?;
-    let next = Vec::from_slice(alloc, &graph.next)?;
-    Ok(Rows::from_lists(names, arrows, next))
+    for number in numbers {
+        arrows.push(ArrowId(*number))?;
+    }
+    Ok(Path::of(arrows))
 }
 
-/// Why the graph's lists are no graph, if they are none.
-fn fault_of(alloc: Global, graph: &Graph) -> Result<Option<TableFault>, Fail> {
-    let schema = Schema::build(alloc, graph_parts(alloc)?)?;
-    let rows = rows_of(alloc, graph)?;
-    Ok(Table::new(alloc, &schema, rows).err())
+/// The schema of symmetric graphs: graphs whose edges have an inverse each. Its own inverse is the edge itself, and
+/// its source the edge's target.
+fn symmetric_graphs(alloc: Global) -> Result<Schema, Fail> {
+    let arrows = [("src", 1, 0), ("tgt", 1, 0), ("inv", 1, 1)];
+    let mut parts = parts_of(alloc, &["V", "E"], &arrows)?;
+    let sides: [(&[u16], &[u16]); 2] = [(&[2, 2], &[]), (&[2, 0], &[1])];
+    for (left, right) in &sides {
+        parts.equations.push(Equation {
+            object: ObjectId(1),
+            left: path_of(alloc, left)?,
+            right: path_of(alloc, right)?,
+        })?;
+    }
+    Ok(Schema::build(alloc, parts)?)
+}
+
+/// A list of its own for each list.
+fn lists_of(alloc: Global, lists: &[&[u32]]) -> Result<Vec<Vec<u32>>, OutOfMemory> {
+    let mut copies = Vec::new(alloc);
+    for list in lists {
+        copies.push(Vec::from_slice(alloc, list)?)?;
+    }
+    Ok(copies)
+}
+
+fn rows_of(alloc: Global, lists: Lists) -> Result<Rows, OutOfMemory> {
+    let names = lists_of(alloc, lists.names)?;
+    let arrows = lists_of(alloc, lists.rows)?;
+    let next = Vec::from_slice(alloc, lists.next)?;
+    Ok(Rows::from_lists(names, arrows, Vec::new(alloc), next))
+}
+
+/// Why the lists are no instance of the schema, if they are none.
+fn fault_of(
+    alloc: Global,
+    schema: &Schema,
+    lists: Lists,
+) -> Result<Option<TableFault>, OutOfMemory> {
+    let rows = rows_of(alloc, lists)?;
+    Ok(Table::new(alloc, schema, rows).err())
 }
 
 #[test]
-fn names_the_first_fault(rt: HostRuntime) -> Result<(), Fail> {
-    let vertices = TableFault::Names {
-        object: ObjectId(0),
-    };
-    let edges = TableFault::Names {
-        object: ObjectId(1),
-    };
-    let targets = TableFault::Range {
+fn accepts_graphs(rt: HostRuntime) -> Result<(), Fail> {
+    let graphs = graphs(rt.alloc())?;
+    for lists in [PATH, GAPS] {
+        assert_eq!(rt; fault_of(rt.alloc(), &graphs, lists)?, None);
+    }
+    Ok(())
+}
+
+#[test]
+fn refuses_shapes(rt: HostRuntime) -> Result<(), Fail> {
+    let graphs = graphs(rt.alloc())?;
+    for lists in [NOTHING, SHORT] {
+        assert_eq!(rt;
+            fault_of(rt.alloc(), &graphs, lists)?,
+            Some(TableFault::Shape)
+        );
+    }
+    Ok(())
+}
+
+#[test]
+fn refuses_names(rt: HostRuntime) -> Result<(), Fail> {
+    let graphs = graphs(rt.alloc())?;
+    for (lists, object) in [(UNORDERED, 0), (AT_NEXT, 0), (TWICE, 1)] {
+        let fault = TableFault::Names {
+            object: ObjectId(object),
+        };
+        assert_eq!(rt; fault_of(rt.alloc(), &graphs, lists)?, Some(fault));
+    }
+    Ok(())
+}
+
+#[test]
+fn refuses_images(rt: HostRuntime) -> Result<(), Fail> {
+    let graphs = graphs(rt.alloc())?;
+    let fault = TableFault::Range {
         arrow: ArrowId(1),
         position: 1,
     };
-    let cases = [
-        (PATH, None),
-        (
-            Graph {
-                edges: [7, 9],
-                next: [6, 10],
-                ..PATH
-            },
-            None,
-        ),
-        (
-            Graph {
-                vertices: [0, 2, 1],
-                targets: [1, 5],
-                ..PATH
-            },
-            Some(vertices),
-        ),
-        (
-            Graph {
-                next: [2, 2],
-                ..PATH
-            },
-            Some(vertices),
-        ),
-        (
-            Graph {
-                edges: [1, 1],
-                ..PATH
-            },
-            Some(edges),
-        ),
-        (
-            Graph {
-                targets: [1, 3],
-                ..PATH
-            },
-            Some(targets),
-        ),
-    ];
-    for (graph, fault) in &cases {
-        assert_eq!(rt; fault_of(rt.alloc(), graph)?, *fault);
+    assert_eq!(rt; fault_of(rt.alloc(), &graphs, OUTSIDE)?, Some(fault));
+    Ok(())
+}
+
+#[test]
+fn checks_equations(rt: HostRuntime) -> Result<(), Fail> {
+    let symmetric = symmetric_graphs(rt.alloc())?;
+    let fault = TableFault::Equation {
+        equation: 1,
+        name: 0,
+    };
+    assert_eq!(rt; fault_of(rt.alloc(), &symmetric, PAIR)?, None);
+    assert_eq!(rt; fault_of(rt.alloc(), &symmetric, UNPAIRED)?, Some(fault));
+    Ok(())
+}
+
+#[test]
+fn follows_paths(rt: HostRuntime) -> Result<(), Fail> {
+    let symmetric = symmetric_graphs(rt.alloc())?;
+    assert_eq!(rt; symmetric.equations(), 2);
+    let pair = Table::new(rt.alloc(), &symmetric, rows_of(rt.alloc(), PAIR)?)?;
+    let equation = symmetric.equation(1);
+    let mut ends = Vec::new(rt.alloc());
+    for edge in pair.rows().names(equation.object) {
+        ends.push(pair.follow(&equation.left, *edge))?;
     }
-    let schema = Schema::build(rt.alloc(), graph_parts(rt.alloc())?)?;
-    let nothing = Rows::from_lists(
-        Vec::new(rt.alloc()),
-        Vec::new(rt.alloc()),
-        Vec::new(rt.alloc()),
-    );
-    assert_eq!(rt;
-        Table::new(rt.alloc(), &schema, nothing).err(),
-        Some(TableFault::Shape)
-    );
+    assert_eq!(rt; ends.as_slice(), [1, 0].as_slice());
     Ok(())
 }
 
@@ -136,10 +240,10 @@ fn names_the_first_fault(rt: HostRuntime) -> Result<(), Fail> {
 fn path(rt: &impl Abort, alloc: Global) -> Result<Table, Fail>
     ensures { IfOk result (λ path. length path.signature.arrows ≡ 2) }
 {
-    let schema = Schema::build(alloc, graph_parts(alloc)?)?;
-    assert_eq!(rt; schema.arrow_list().len(), 2);
-    let rows = rows_of(alloc, &PATH)?;
-    Ok(Table::new(alloc, &schema, rows)?)
+    let graphs = graphs(alloc)?;
+    assert_eq!(rt; graphs.arrow_list().len(), 2);
+    let rows = rows_of(alloc, PATH)?;
+    Ok(Table::new(alloc, &graphs, rows)?)
 }
 
 #[test]
@@ -153,10 +257,63 @@ fn follows_arrows(rt: HostRuntime) -> Result<(), Fail> {
 }
 
 #[test]
-fn compares(rt: HostRuntime) -> Result<(), Fail> {
-    let left = path(&rt, rt.alloc())?;
-    let right = path(&rt, rt.alloc())?;
-    assert!(rt; left.same(&right));
+fn copies(rt: HostRuntime) -> Result<(), Fail> {
+    let path = path(&rt, rt.alloc())?;
+    let copy = path.copy(rt.alloc())?;
+    assert!(rt; copy.same(&path));
+    Ok(())
+}
+
+/// The schema of an object V, whose parts have an integer w each.
+fn weights(alloc: Global) -> Result<Schema, Fail> {
+    let mut parts = parts_of(alloc, &["V"], &[])?;
+    parts.attributes.push(AttrDef {
+        name: Text::of(alloc, "w")?,
+        object: ObjectId(0),
+        kind: Kind::Int,
+    })?;
+    Ok(Schema::build(alloc, parts)?)
+}
+
+/// Lists of the parts 0, 1 and 2 with the cells 7, a blank one and the last one.
+fn weighted(alloc: Global, last: Atom) -> Result<Rows, OutOfMemory> {
+    let mut row = Vec::new(alloc);
+    row.push(Some(Atom::Int(7)))?;
+    row.push(None)?;
+    row.push(Some(last))?;
+    let mut cells = Vec::new(alloc);
+    cells.push(row)?;
+    let names = lists_of(alloc, &[&[0, 1, 2]])?;
+    let next = Vec::from_slice(alloc, &[3])?;
+    Ok(Rows::from_lists(names, Vec::new(alloc), cells, next))
+}
+
+#[test]
+fn reads_cells(rt: HostRuntime) -> Result<(), Fail> {
+    let weights = weights(rt.alloc())?;
+    assert_eq!(rt; weights.attributes(), 1);
+    let rows = weighted(rt.alloc(), Atom::Int(7))?;
+    let table = Table::new(rt.alloc(), &weights, rows)?;
+    assert!(rt; matches!(table.cell(AttrId(0), 0), Some(Some(Atom::Int(7)))));
+    assert!(rt; matches!(table.cell(AttrId(0), 1), Some(None)));
+    assert!(rt; matches!(table.cell(AttrId(0), 2), Some(Some(Atom::Int(7)))));
+    assert!(rt; table.cell(AttrId(0), 3).is_none());
+    assert!(rt; matches!(table.atom(AttrId(0), 2), Some(Atom::Int(7))));
+    assert!(rt; table.atom(AttrId(0), 1).is_none());
+    assert!(rt; table.atom(AttrId(0), 3).is_none());
+    Ok(())
+}
+
+#[test]
+fn checks_kinds(rt: HostRuntime) -> Result<(), Fail> {
+    let weights = weights(rt.alloc())?;
+    let text = Atom::Text(Text::of(rt.alloc(), "7")?);
+    let fault = TableFault::Kind {
+        attr: AttrId(0),
+        position: 2,
+    };
+    let rows = weighted(rt.alloc(), text)?;
+    assert_eq!(rt; Table::new(rt.alloc(), &weights, rows).err(), Some(fault));
     Ok(())
 }
 
@@ -169,10 +326,20 @@ fn prints(rt: HostRuntime) -> Result<(), Fail> {
         arrow: ArrowId(0),
         position: 0,
     };
+    let kind = TableFault::Kind {
+        attr: AttrId(0),
+        position: 0,
+    };
+    let equation = TableFault::Equation {
+        equation: 0,
+        name: 0,
+    };
     for (fault, text) in [
         (TableFault::Shape, "a list has a wrong length"),
         (names, "names do not ascend below the next name"),
         (range, "an image is no name of the target"),
+        (kind, "an atom is of another kind than its attribute"),
+        (equation, "an equation does not hold"),
         (TableFault::OutOfMemory, "out of memory"),
     ] {
         assert_eq!(rt; format!(in rt.alloc(); "{fault}")?.as_str(), text);

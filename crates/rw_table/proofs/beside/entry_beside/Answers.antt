@@ -5,7 +5,7 @@ use Rattle.rw_table.proofs.beside.entry_beside.Goals as goal
 
 pub returns-in_err-position : goal.returns-in_err-position
 returns-in_err-position c =
-    c.from_residual.ensures ∙ entry_missing c.args.names.now c.args.entries.now c.args.name (sym c.position_of.ensures ∙ c.in_err-position.was)
+    c.from_residual.ensures ∙ entry_missing 0 c.args.names.now c.args.entries.now c.args.name (sym c.position_of.ensures ∙ c.in_err-position.was)
 
 pub returns : goal.returns
-returns c = entry_found c.args.names.now c.args.entries.now c.args.name c.in_ok-position.position (sym c.position_of.ensures ∙ c.in_ok-position.was)
+returns c = entry_found 0 c.args.names.now c.args.entries.now c.args.name c.in_ok-position.position (sym c.position_of.ensures ∙ c.in_ok-position.was)

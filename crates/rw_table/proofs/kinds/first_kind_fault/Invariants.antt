@@ -1,0 +1,9 @@
+-- The first fault of all is the first of what is left.
+use Rattle.std.proofs.Common.{◌≡◌, drop, map}
+use Rattle.rw_schema.specs.First.{first_in}
+use Rattle.rw_schema.specs.Presentation.{ends_of_attribute}
+use Rattle.rw_table.specs.TableFaults.{cell_fault}
+use Rattle.rw_table.proofs.kinds.first_kind_fault.Given as goal
+
+abbrev pub invariant-loop-place : goal.invariant-loop-place
+invariant-loop-place l = first_in (cell_fault l.rows) 0 (map ends_of_attribute l.attributes) ≡ first_in (cell_fault l.rows) l.place (map ends_of_attribute (drop l.place l.attributes))
