@@ -3,8 +3,12 @@ mod Examples
 pub mod Injectivity
 pub mod Maps
 pub mod Naturality
+pub mod Over
 pub mod PartNames
+pub mod PatternInstance
 pub mod Places
+pub mod SameAtoms
 pub mod Sequences
 pub mod Shapes
 pub mod Tuples
+pub mod Valuations

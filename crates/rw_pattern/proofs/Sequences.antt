@@ -199,3 +199,8 @@ all_in_from_each f i (x ∷ xs) each =
     let same : (i + 1) + k ≡ i + suc k = omega arith in
     rw same (each (suc k) y there)) in
     rw (here, later) refl
+
+-- a test that holds at each place holds of all items
+pub list_all_from_each : {X : Type 0} (p : X → Bool) (xs : List X) → ((k : ℕ) (x : X) → slice_get xs k ≡ Some x → p x ≡ true) → list_all p xs ≡ true
+list_all_from_each p [] each = refl
+list_all_from_each p (x ∷ xs) each = rw (each zero x refl) (list_all_from_each p xs (λ k y there. each (suc k) y there))

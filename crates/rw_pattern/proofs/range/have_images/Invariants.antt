@@ -3,10 +3,9 @@ use Rattle.std.proofs.Common.{◌≡◌, map, drop}
 use Rattle.rw_schema.specs.First.{all_in}
 use Rattle.rw_schema.specs.Presentation.{ends_of_arrow}
 use Rattle.rw_pattern.specs.PatternFaults.{is_in_range}
-use Rattle.rw_pattern.proofs.conditions.are_in_range.Given as goal
+use Rattle.rw_pattern.proofs.range.have_images.Given as goal
 
 abbrev pub invariant-loop-number : goal.invariant-loop-number
 invariant-loop-number l =
-    let test = is_in_range (record { sizes = l.sizes; rows = map (λ row. row.items) l.rows }) in
-    let arrows = map ends_of_arrow l.arrows in
-    all_in test 0 arrows ≡ all_in test l.number (drop l.number arrows)
+    let arrows = map ends_of_arrow l.schema.arrows in
+    all_in (is_in_range l.pattern) 0 arrows ≡ all_in (is_in_range l.pattern) l.number (drop l.number arrows)

@@ -1,0 +1,6 @@
+-- What was copied are the entries so far.
+use Rattle.std.proofs.Common.{◌≡◌, take}
+use Rattle.rw_pattern.proofs.copies.copy_entries.Given as goal
+
+abbrev pub invariant-loop-entry : goal.invariant-loop-entry
+invariant-loop-entry l = l.copies.items ≡ take l.entry-index l.entries
