@@ -17,11 +17,6 @@ pub const LOOP: &str =
 "instance":{"parts":[1,1],"rows":[[0],[0]]},
 "watches":[{"name":"edge","pattern":{"parts":[2,1],"rows":[[0],[1]]}}]}"#;
 
-/// A schema with attributes, which are not read yet.
-pub const ATTRIBUTES: &str =
-    r#"{"format":1,"schema":{"objects":["V"],"arrows":[],"attributes":[["w","V","int"]]},
-"watches":[]}"#;
-
 /// A document that is cut short.
 pub const CUT: &str = r#"{"format":1"#;
 
@@ -84,3 +79,46 @@ pub const CUT_CORNER: &str =
 "rules":[{"name":"cut","kind":"dpo","monic":["V","E"],
 "left":{"parts":[3,2],"rows":[[0,1],[1,2]]},"keep":{"parts":[2,0],"rows":[[],[]]},"right":{"parts":[2,1],"rows":[[0],[1]]},
 "l":[[0,2],[]],"r":[[0,1],[]]}]}"#;
+
+/// One vertex with a loop, and the pattern of an edge between two vertices.
+pub const EDGE_LOOP_MONIC: &str =
+    r#"{"format":1,"schema":{"objects":["V","E"],"arrows":[["src","E","V"],["tgt","E","V"]]},
+"instance":{"parts":[1,1],"rows":[[0],[0]]},
+"watches":[{"name":"edge","pattern":{"parts":[2,1],"rows":[[0],[1]]},"monic":["V"]}]}"#;
+
+/// Vertices with numbers; the pattern of two vertices with one number, and that of a vertex with the number 8.
+pub const SAME: &str =
+    r#"{"format":1,"schema":{"objects":["V"],"arrows":[],"attributes":[["w","V","int"]]},
+"instance":{"parts":[3],"rows":[],"cells":[[7,8,7]]},
+"watches":[{"name":"same","pattern":{"parts":[2],"rows":[],"cells":[["w",0,{"var":"x"}],["w",1,{"var":"x"}]]}},
+{"name":"eight","pattern":{"parts":[1],"rows":[],"cells":[["w",0,8]]}}]}"#;
+
+/// A rule that deletes a vertex, two vertices with an edge, and the pattern of an edge.
+pub const PATH_OF_ONE: &str =
+    r#"{"format":1,"schema":{"objects":["V","E"],"arrows":[["src","E","V"],["tgt","E","V"]]},
+"instance":{"parts":[2,1],"rows":[[0],[1]]},
+"rules":[{"name":"del","kind":"dpo",
+"left":{"parts":[1,0],"rows":[[],[]]},"keep":{"parts":[0,0],"rows":[[],[]]},"right":{"parts":[0,0],"rows":[[],[]]},
+"l":[[],[]],"r":[[],[]]}],
+"watches":[{"name":"edge","pattern":{"parts":[2,1],"rows":[[0],[1]]}}]}"#;
+
+/// A symmetric graph: each edge has an inverse, and its source is the target of its inverse.
+pub const SYMMETRIC: &str =
+    r#"{"format":1,"schema":{"objects":["V","E"],"arrows":[["src","E","V"],["tgt","E","V"],["inv","E","E"]],
+"equations":[["E",["inv","inv"],[]],["E",["inv","src"],["tgt"]]]},
+"instance":{"parts":[2,2],"rows":[[0,1],[1,0],[1,0]]}}"#;
+
+/// Two edges that are inverses of themselves, though they are no loops.
+pub const TWISTED: &str =
+    r#"{"format":1,"schema":{"objects":["V","E"],"arrows":[["src","E","V"],["tgt","E","V"],["inv","E","E"]],
+"equations":[["E",["inv","inv"],[]],["E",["inv","src"],["tgt"]]]},
+"instance":{"parts":[2,2],"rows":[[0,1],[1,0],[0,1]]}}"#;
+
+/// A rule that deletes an edge and its inverse.
+pub const SYMMETRIC_CUT: &str =
+    r#"{"format":1,"schema":{"objects":["V","E"],"arrows":[["src","E","V"],["tgt","E","V"],["inv","E","E"]],
+"equations":[["E",["inv","inv"],[]],["E",["inv","src"],["tgt"]]]},
+"instance":{"parts":[2,2],"rows":[[0,1],[1,0],[1,0]]},
+"rules":[{"name":"cut","kind":"dpo","monic":["V","E"],
+"left":{"parts":[2,2],"rows":[[0,1],[1,0],[1,0]]},"keep":{"parts":[2,0],"rows":[[],[],[]]},"right":{"parts":[2,0],"rows":[[],[],[]]},
+"l":[[0,1],[]],"r":[[0,1],[]]}]}"#;

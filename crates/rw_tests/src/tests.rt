@@ -1,6 +1,6 @@
 ghost use Rattle.std.specs.Prelude.{◌≡◌, ◌<◌};
 
-use crate::documents::{ATTRIBUTES, CUT, LOOP, PATH, PETRI, TRIANGLE, UNIT};
+use crate::documents::{CUT, LOOP, PATH, PETRI, TRIANGLE, UNIT};
 use rw_app::{Status, run_words};
 use rw_outside::{MemSink, MemSource, Sink, Source};
 use rw_steps::Steps;
@@ -117,15 +117,8 @@ fn documents_are_refused(rt: HostRuntime) -> Result<(), Fail> {
         not_json,
     )?;
     check(&rt, alloc, &["matches", "edge"], b"\xff", 3, not_json)?;
-    let not_built = "{\"at\":[0,0,0],\"fault\":16,\"section\":\"whole\"}\n";
-    check(
-        &rt,
-        alloc,
-        &["matches", "edge"],
-        ATTRIBUTES.as_bytes(),
-        3,
-        not_built,
-    )
+    let deep = vec![in alloc; b'['; 128]?;
+    check(&rt, alloc, &["check"], deep.as_slice(), 3, not_json)
 }
 
 #[test]
@@ -133,6 +126,7 @@ fn other_words_get_the_usage_line(rt: HostRuntime) -> Result<(), Fail> {
     let alloc = rt.alloc();
     check(&rt, alloc, &[], PATH.as_bytes(), 2, USAGE)?;
     check(&rt, alloc, &["match", "edge"], PATH.as_bytes(), 2, USAGE)?;
+    check(&rt, alloc, &["check", "edge"], PATH.as_bytes(), 2, USAGE)?;
     check(
         &rt,
         alloc,
