@@ -1,5 +1,5 @@
 -- Walks along arrows, over the arrows alone and over the whole schema.
-use Rattle.std.proofs.Common.{◌≡◌, ◌==◌, ◌∙◌, ◌<◌, ℕ, true, nat_lt, List, [], ◌∷◌, length, Option, None, refl, sym, ap, subst, lt-ltb}
+use Rattle.std.proofs.Common.{◌≡◌, ◌<◌, ℕ, true, nat_lt, List, [], ◌∷◌, length, Option, None, refl, sym, ap, subst, lt-ltb}
 use Rattle.std.proofs.lemmas.Bool.{and_from}
 use Rattle.std.proofs.lemmas.Option.{slice_get_within}
 use Rattle.rw_schema.specs.declared.ids.ArrowId.{ArrowId}

@@ -1,6 +1,7 @@
 //! What no contract says: that calls succeed where memory is there, the printed texts, and examples from outside.
 
-ghost use Rattle.std.specs.Prelude.{◌≡◌, IfOk, length};
+ghost use Rattle.std.specs.Prelude.{◌≡◌, ◌<◌, IfOk, length};
+ghost use Rattle.rw_table.specs.Tabled.{IsOver};
 
 use crate::{Table, TableFault};
 use rw_schema::{
@@ -222,16 +223,30 @@ fn checks_equations(rt: HostRuntime) -> Result<(), Fail> {
     Ok(())
 }
 
+/// Where the left side of the schema's equation leads from each name of its object.
+fn ends_of_left(
+    alloc: Global,
+    schema: &Schema,
+    place: usize,
+    table: &Table,
+) -> Result<Vec<u32>, OutOfMemory>
+    requires place { place < length schema.now.equations }
+    requires over { IsOver schema.now table.now }
+{
+    let equation = schema.equation(place);
+    let mut ends = Vec::new(alloc);
+    for name in table.rows().names(equation.object) {
+        ends.push(table.follow(&equation.left, *name))?;
+    }
+    Ok(ends)
+}
+
 #[test]
 fn follows_paths(rt: HostRuntime) -> Result<(), Fail> {
     let symmetric = symmetric_graphs(rt.alloc())?;
     assert_eq!(rt; symmetric.equations(), 2);
     let pair = Table::new(rt.alloc(), &symmetric, rows_of(rt.alloc(), PAIR)?)?;
-    let equation = symmetric.equation(1);
-    let mut ends = Vec::new(rt.alloc());
-    for edge in pair.rows().names(equation.object) {
-        ends.push(pair.follow(&equation.left, *edge))?;
-    }
+    let ends = ends_of_left(rt.alloc(), &symmetric, 1, &pair)?;
     assert_eq!(rt; ends.as_slice(), [1, 0].as_slice());
     Ok(())
 }

@@ -1,9 +1,8 @@
 -- Each number of a path is an arrow, and the lists have a row for each.
-use Rattle.std.proofs.Common.{◌≡◌, ◌∙◌, length, ap}
+use Rattle.std.proofs.Common.{◌≡◌, ◌∙◌, length}
 use Rattle.rw_schema.specs.Signature.{Signature}
 use Rattle.rw_spec.specs.Instance.{follow}
 use Rattle.rw_table.specs.Along.{instance_along}
-use Rattle.rw_table.specs.Tabled.{instance_of_table}
 use Rattle.rw_table.proofs.Along.{follow_along, path_arrows, rows_of_arrows}
 use Rattle.rw_table.proofs.Checked.{checked_known}
 use Rattle.rw_table.proofs.table.Table.follow.Goals as goal
