@@ -1,6 +1,5 @@
 -- The map from the right pattern to the instance after a step, which gives each part its name there, commutes with each arrow.
 use Rattle.std.proofs.Common.{◌≡◌, ◌==◌, ◌∙◌, ℕ, ◌+◌, ◌<◌, ◌≤◌, true, false, List, length, position, Option, slice_get, slice_index, Some, None, refl, sym, ap, inl, inr, arith, eqb-true, ◌-◌}
-use Rattle.std.specs.List.{Contains, range_with_len}
 use Rattle.std.specs.Option.{is_some}
 use Rattle.std.proofs.lemmas.Bool.{cases_Bool}
 use Rattle.std.proofs.lemmas.List.Elements.{Contains-get_or}

@@ -12,7 +12,7 @@ use Rattle.rw_pattern.specs.PatternLists.{size_of, instance_of_pattern}
 use Rattle.rw_pattern.proofs.PartNames.{has_part}
 use Rattle.rw_pattern.proofs.PatternInstance.{pattern_instance}
 use Rattle.rw_rule.specs.RuleLists.{RuleLists}
-use Rattle.rw_plain.specs.PlainStep.{is_image, new_parts, new_before, name_of_right, part_of_name, value_after, instance_after}
+use Rattle.rw_plain.specs.PlainStep.{new_parts, name_of_right, part_of_name, value_after, instance_after}
 use Rattle.rw_plain.proofs.ArrowValues.{value_at_earlier}
 use Rattle.rw_plain.proofs.Ascents.{range_bounds}
 use Rattle.rw_plain.proofs.Comatch.{IsPlainStep, comatch_commutes, name_of_new}

@@ -89,8 +89,17 @@ shape_listed C Y next category =
     rw (cells_listed C Y next c ends there, names_listed C Y next ends.object.0 (category.holders c ends there))
     (length-map (Y.names ends.object.0) (Y.cell c)) in
     rw (zero-add c) (eq-eqb (length (list_at rows.cells c)) (length (list_at rows.names ends.object.0)) list_long)) in
-    rw (names_long, next_long, arrows_long, cells_long, whole, whole_cells,
-    eq-eqb C.objects C.objects refl, eq-eqb (length C.arrows) (length C.arrows) refl, eq-eqb (length C.attributes) (length C.attributes) refl) refl
+    rw (
+      names_long,
+      next_long,
+      arrows_long,
+      cells_long,
+      whole,
+      whole_cells,
+      eq-eqb C.objects C.objects refl,
+      eq-eqb (length C.arrows) (length C.arrows) refl,
+      eq-eqb (length C.attributes) (length C.attributes) refl,
+    ) refl
 
 -- the names in the lists have no fault where those of each object have none
 names_unfaulted : (C : Signature) (Y : Instance) (next : ℕ → ℕ)
@@ -198,5 +207,10 @@ pub listed_unfaulted : (C : Signature) (Y : Instance) (next : ℕ → ℕ) → I
 listed_unfaulted C Y next category names is =
     let distinct : HasDistinctNames C Y = λ object known.
     ascends_distinct (Y.names object) (and_parts (ascends (Y.names object)) (list_all (λ name. nat_lt name (next object)) (Y.names object)) (names object known)).0 in
-    rw (shape_listed C Y next category, names_unfaulted C Y next names, range_unfaulted C Y next category is.values, kinds_unfaulted C Y next is,
-    equations_unfaulted C Y next category distinct is) refl
+    rw (
+      shape_listed C Y next category,
+      names_unfaulted C Y next names,
+      range_unfaulted C Y next category is.values,
+      kinds_unfaulted C Y next is,
+      equations_unfaulted C Y next category distinct is,
+    ) refl

@@ -1,9 +1,8 @@
 -- The names of the parts of the right pattern are names after the step.
-use Rattle.std.proofs.Common.{◌≡◌, ◌==◌, ◌∙◌, ℕ, suc, ◌+◌, ◌-◌, ◌<◌, Bool, true, false, not, List, ◌∷◌, ◌++◌, filter, length, position, Option, slice_get, slice_index, Some, None, refl, sym, ap, subst, zero-add, arith, length-append}
-use Rattle.std.specs.List.{Contains, range_with_len}
+use Rattle.std.proofs.Common.{◌≡◌, ◌==◌, ◌∙◌, ℕ, ◌+◌, ◌-◌, ◌<◌, false, List, length, position, Option, slice_get, slice_index, Some, None, refl, sym, ap, arith}
+use Rattle.std.specs.List.{Contains}
 use Rattle.std.specs.Option.{is_some}
-use Rattle.std.proofs.lemmas.Bool.{not_from_false}
-use Rattle.std.proofs.lemmas.List.Elements.{Contains-append_right, filter-append}
+use Rattle.std.proofs.lemmas.List.Elements.{Contains-append_right}
 use Rattle.std.proofs.lemmas.List.Quantifiers.{position-Some}
 use Rattle.rw_schema.specs.declared.signature.ArrowEnds.{ArrowEnds}
 use Rattle.rw_schema.specs.RowLists.{RowLists, list_at}

@@ -1,5 +1,5 @@
 -- What a step at a plain match does not remove: the name of a kept part, and where an arrow leads from a name that stays.
-use Rattle.std.proofs.Common.{◌≡◌, ◌==◌, ◌∙◌, ℕ, ◌+◌, ◌<◌, true, false, not, ◌&&◌, List, length, Option, slice_get, Some, None, ap, inl, inr, zero-add, eqb-true}
+use Rattle.std.proofs.Common.{◌≡◌, ◌==◌, ◌∙◌, ℕ, ◌+◌, ◌<◌, true, false, not, ◌&&◌, List, Option, slice_get, Some, None, ap, inl, inr, zero-add, eqb-true}
 use Rattle.std.proofs.lemmas.Bool.{and_parts, and_from, and_cases, not-true, not-false, not_from_false, false_from_ne_true, true_from_ne_false, both_ways, cases_Bool}
 use Rattle.std.proofs.lemmas.Option.{slice_get-get_or}
 use Rattle.rw_schema.specs.declared.signature.ArrowEnds.{ArrowEnds}

@@ -42,8 +42,8 @@ all_rows_after-requires-clause-tuple c =
     let rule : RuleLists = c.args.rule.now in
     match_long (signature_of c.args.schema.now) rule.goal.left rule.goal.monic (instance_of_table c.args.table.now) c.args.tuple.now c.requires.tuple
 
-pub returns-clause-sound : goal.returns-clause-sound
-returns-clause-sound c =
+pub returns-clause-rows : goal.returns-clause-rows
+returns-clause-rows c =
     let C : Signature = signature_of c.args.schema.now in
     let rule : RuleLists = c.args.rule.now in
     let tuple : List ℕ = c.args.tuple.now in
@@ -54,11 +54,15 @@ returns-clause-sound c =
     c.in_ok-rows.ensures ∙ ap (λ (arrows : List ArrowDef). map_in (row_of table.signature rule tuple table.rows) 0 (map ends_of_arrow arrows)) c.arrow_list-arrows.ensures.value in
     let next_are : c.in_ok-next.next.items ≡ map (next_after rule table.rows.next) (range_with_len 0 C.objects) =
     c.in_ok-next.ensures ∙ ap (λ (rows : RowLists). map (next_after rule rows.next) (range_with_len 0 C.objects)) c.rows.ensures.value in
-    let cells : List (List (Option Atom)) = map (λ list. list.items) c.cells.result.items in
-    let cells_are : cells ≡ [] = ap (map (λ list. list.items)) c.cells.ensures in
+    let cells : List (List (Option Atom)) = map (λ list. list.items) c.new-cells.result.items in
+    let cells_are : cells ≡ [] = ap (map (λ list. list.items)) c.new-cells.ensures.items in
     let no_attributes : C.attributes ≡ [] = (plain_known C rule c.requires.plain).free in
-    let are : c.from_lists.result ≡ rows_after C rule tuple table.rows =
-    c.from_lists.ensures ∙ lists_are C table.signature rule tuple table.rows names rows cells c.in_ok-next.next.items c.requires.table no_attributes c.in_ok-names.ensures rows_are cells_are next_are in
-    rw are
-    (step_is_sound C rule tuple table.rows c.arrow_list-arrows.ensures.category
+    c.from_lists.ensures
+    ∙ lists_are C table.signature rule tuple table.rows names rows cells c.in_ok-next.next.items c.requires.table no_attributes c.in_ok-names.ensures rows_are cells_are next_are
+
+pub returns-clause-sound : goal.returns-clause-sound
+returns-clause-sound c =
+    let table : Tabled = c.args.table.now in
+    rw (returns-clause-rows c)
+    (step_is_sound (signature_of c.args.schema.now) c.args.rule.now c.args.tuple.now table.rows c.arrow_list-arrows.ensures.category
     (rw c.requires.table at c.rows.ensures.sound) c.requires.rule c.requires.plain (rw c.requires.table at c.requires.tuple) (rw c.requires.table at c.requires.closed))
