@@ -6,11 +6,10 @@ use Rattle.std.proofs.lemmas.List.Elements.{Contains-get_or}
 use Rattle.std.proofs.lemmas.List.Quantifiers.{position-Some}
 use Rattle.rw_schema.specs.declared.signature.ArrowEnds.{ArrowEnds}
 use Rattle.rw_schema.specs.RowLists.{RowLists, list_at}
-use Rattle.rw_schema.specs.Signature.{Signature, IsCategory}
+use Rattle.rw_schema.specs.Signature.{Signature}
 use Rattle.rw_spec.specs.Distinct.{AreDistinct}
 use Rattle.rw_spec.specs.Instance.{Has, instance_of}
 use Rattle.rw_spec.proofs.Look.{found_contained}
-use Rattle.rw_table.specs.TableFaults.{table_fault}
 use Rattle.rw_table.proofs.Places.{place_found}
 use Rattle.rw_pattern.specs.MapFaults.{image_of}
 use Rattle.rw_pattern.specs.PatternLists.{size_of, instance_of_pattern, map_of_tuple}
@@ -24,16 +23,8 @@ use Rattle.rw_plain.proofs.ArrowValues.{value_at_earlier, value_at_new}
 use Rattle.rw_plain.proofs.NamesAfter.{name_below}
 use Rattle.rw_plain.proofs.NewParts.{new_part_at}
 use Rattle.rw_plain.proofs.Parts.{image_from, value_part}
-use Rattle.rw_plain.proofs.PlainMatch.{IsPlainMatch}
+use Rattle.rw_plain.proofs.PlainMatch.{IsPlainStep}
 use Rattle.rw_plain.proofs.RuleMaps.{keep_is, keep_known, left_natural, right_natural, right_shape, right_distinct}
-
--- a step of a plain rule: the rule, the lists before, and a match at which no arrow dangles
-pub record IsPlainStep (C : Signature) (rule : RuleLists) (tuple : List ℕ) (rows : RowLists) : Type 0 where
-  pub category : IsCategory C
-  pub over : IsRuleOver C rule
-  pub plain : is_plain C rule ≡ true
-  pub sound : table_fault C rows ≡ None
-  pub match : IsPlainMatch C rule tuple (instance_of C rows)
 
 -- nothing is there where a test for something fails
 nothing_there : {A : Type 0} (answer : Option A) → is_some answer ≡ false → answer ≡ None

@@ -1,10 +1,12 @@
--- The matches at which a plain rule is applied are injective.
+-- Steps of plain rules: their matches are injective.
 use Rattle.std.proofs.Common.{◌≡◌, ◌∙◌, ℕ, ◌<◌, Bool, true, false, ◌||◌, nat_le, List, length, get_or, slice_get, Some, None, ap, inl, inr, zero-add, arith}
 use Rattle.std.proofs.lemmas.Bool.{or_cases, leb-true}
 use Rattle.std.proofs.lemmas.Option.{slice_get-get_or}
-use Rattle.rw_schema.specs.Signature.{Signature}
-use Rattle.rw_spec.specs.Instance.{Instance}
+use Rattle.rw_schema.specs.RowLists.{RowLists}
+use Rattle.rw_schema.specs.Signature.{Signature, IsCategory}
+use Rattle.rw_spec.specs.Instance.{Instance, instance_of}
 use Rattle.rw_spec.specs.Natural.{IsNatural, IsInjectiveOn}
+use Rattle.rw_table.specs.TableFaults.{table_fault}
 use Rattle.rw_pattern.specs.PatternLists.{size_of, instance_of_pattern, map_of_tuple}
 use Rattle.rw_pattern.proofs.PartNames.{has_part}
 use Rattle.rw_pattern.proofs.Sequences.{all_in_at}
@@ -42,3 +44,11 @@ is_plain_match C rule tuple X over plain natural injective safe = record {
       ];
   safe = safe;
 }
+
+-- a step of a plain rule: the rule, the lists before, and a match at which no arrow dangles
+pub record IsPlainStep (C : Signature) (rule : RuleLists) (tuple : List ℕ) (rows : RowLists) : Type 0 where
+  pub category : IsCategory C
+  pub over : IsRuleOver C rule
+  pub plain : is_plain C rule ≡ true
+  pub sound : table_fault C rows ≡ None
+  pub match : IsPlainMatch C rule tuple (instance_of C rows)

@@ -15,13 +15,12 @@ use Rattle.rw_rule.specs.RuleFaults.{IsRuleOver}
 use Rattle.rw_rule.specs.RuleLists.{RuleLists}
 use Rattle.rw_plain.specs.Obstructions.{dangling}
 use Rattle.rw_plain.specs.PlainStep.{next_after, instance_after, rows_after}
-use Rattle.rw_plain.proofs.Comatch.{IsPlainStep}
 use Rattle.rw_plain.proofs.Equations.{equations_after}
 use Rattle.rw_plain.proofs.Listed.{listed_unfaulted}
 use Rattle.rw_plain.proofs.NamesAfter.{kept_names, new_names, names_ascend_after}
 use Rattle.rw_plain.proofs.NewNames.{new_value_there, kept_value_there}
 use Rattle.rw_plain.proofs.PartNames.{match_long}
-use Rattle.rw_plain.proofs.PlainMatch.{is_plain_match}
+use Rattle.rw_plain.proofs.PlainMatch.{IsPlainStep, is_plain_match}
 use Rattle.rw_plain.proofs.RuleMaps.{plain_known}
 
 -- each arrow of the instance after the step is a function from the names of its source to those of its target
