@@ -1,22 +1,19 @@
 -- The values of arrows before the step and after it.
-use Rattle.std.proofs.Common.{◌≡◌, ◌==◌, ℕ, ◌<◌, ◌≤◌, inl, inr, not, Some, List, length, map, slice_get, slice_index, refl, sym, ap, ◌∙◌, option_map}
+use Rattle.std.proofs.Common.{◌≡◌, ◌==◌, ℕ, ◌<◌, ◌≤◌, inl, inr, Some, List, map, slice_get, slice_index, refl, sym, ap, ◌∙◌, option_map}
 use Rattle.std.specs.List.{list_any}
 use Rattle.std.specs.Option.{unwrap_or}
 use Rattle.std.proofs.lemmas.Bool.{cases_Bool, both_ways, lt-ltb, le-ltb}
-use Rattle.std.proofs.lemmas.List.Elements.{Contains-get_or}
 use Rattle.std.proofs.lemmas.Option.{slice_get-map, get_or_from_slice_get}
 use Rattle.rw_schema.specs.declared.signature.ArrowEnds.{ArrowEnds}
 use Rattle.rw_schema.specs.RowLists.{list_at}
 use Rattle.rw_schema.specs.Signature.{Signature, source_of}
+use Rattle.rw_spec.specs.Ends.{target_of}
 use Rattle.rw_spec.specs.Instance.{Instance}
 use Rattle.rw_spec.proofs.Look.{found_contained, look_missing}
 use Rattle.rw_spec.proofs.Signatures.{source_is}
 use Rattle.rw_table.specs.Tabled.{Tabled, instance_of_table, value_at}
-use Rattle.rw_pattern.specs.PatternLists.{size_of}
-use Rattle.rw_pattern.proofs.PartNames.{part_below}
-use Rattle.rw_pattern.proofs.Sequences.{contained_in_filter}
 use Rattle.rw_rule.specs.RuleLists.{RuleLists}
-use Rattle.rw_plain.specs.PlainStep.{is_image, parts_of, target_of, new_parts, name_of_right, part_of_name, value_after}
+use Rattle.rw_plain.specs.PlainStep.{name_of_right, part_of_name, value_after}
 
 -- the target of an arrow is the target in its ends
 target_is : (C : Signature) (arrow : ℕ) (ends : ArrowEnds) → slice_get C.arrows arrow ≡ Some ends → target_of C arrow ≡ ends.target.0
@@ -34,13 +31,6 @@ value_or_zero table arrow name =
       | inr missing ↦
           rw missing (sym (look_missing 0 names images name (λ has. both_ways (list_any (λ other. other == name) names) missing (found_contained names name has))))
     ]
-
--- a new part is a part of R
-pub new_part_within : (rule : RuleLists) (object place : ℕ) → place < length (new_parts rule object) → slice_index (new_parts rule object) place < size_of rule.right object
-new_part_within rule object place within =
-    let fresh : List ℕ = new_parts rule object in
-    part_below rule.right object (slice_index fresh place)
-    (contained_in_filter (λ part. not (is_image rule.r object part)) (parts_of rule.right object) (slice_index fresh place) (Contains-get_or fresh place 0 within)).0
 
 -- at an earlier name the value stays
 pub value_at_earlier : (C : Signature) (rule : RuleLists) (tuple : List ℕ) (X : Instance) (next : List ℕ) (arrow : ℕ) (ends : ArrowEnds) (name : ℕ)

@@ -1,9 +1,8 @@
 -- The names of the parts of the right pattern are names after the step.
-use Rattle.std.proofs.Common.{◌≡◌, ◌==◌, ◌∙◌, ℕ, suc, ◌+◌, ◌-◌, ◌<◌, Bool, true, false, not, List, ◌∷◌, ◌++◌, filter, length, position, Option, slice_get, slice_index, Some, None, refl, sym, ap, subst, zero-add, arith, length-append}
-use Rattle.std.specs.List.{Contains, range_with_len}
+use Rattle.std.proofs.Common.{◌≡◌, ◌==◌, ◌∙◌, ℕ, ◌+◌, ◌-◌, ◌<◌, false, List, length, position, Option, slice_get, slice_index, Some, None, refl, sym, ap, arith}
+use Rattle.std.specs.List.{Contains}
 use Rattle.std.specs.Option.{is_some}
-use Rattle.std.proofs.lemmas.Bool.{not_from_false}
-use Rattle.std.proofs.lemmas.List.Elements.{Contains-append_right, filter-append}
+use Rattle.std.proofs.lemmas.List.Elements.{Contains-append_right}
 use Rattle.std.proofs.lemmas.List.Quantifiers.{position-Some}
 use Rattle.rw_schema.specs.declared.signature.ArrowEnds.{ArrowEnds}
 use Rattle.rw_schema.specs.RowLists.{RowLists, list_at}
@@ -14,41 +13,19 @@ use Rattle.rw_table.proofs.Places.{place_found}
 use Rattle.rw_table.proofs.TableInstance.{table_functions}
 use Rattle.rw_pattern.specs.MapFaults.{image_of}
 use Rattle.rw_pattern.specs.PatternLists.{size_of, instance_of_pattern, map_of_tuple}
-use Rattle.rw_pattern.proofs.Maps.{is_map, images_long, natural_from_map}
+use Rattle.rw_pattern.proofs.Maps.{images_long}
 use Rattle.rw_pattern.proofs.PartNames.{has_part}
-use Rattle.rw_pattern.proofs.Shapes.{is_pattern}
 use Rattle.rw_rule.specs.RuleFaults.{IsRuleOver}
 use Rattle.rw_rule.specs.RuleLists.{RuleLists}
 use Rattle.rw_plain.specs.PlainStep.{is_image, new_parts, new_before, names_after, name_from, name_of_right, part_of_name, value_after}
-use Rattle.rw_plain.proofs.ArrowValues.{new_part_within, value_at_earlier, value_at_new}
+use Rattle.rw_plain.proofs.ArrowValues.{value_at_earlier, value_at_new}
 use Rattle.rw_plain.proofs.Ascents.{range_contains, range_bounds}
 use Rattle.rw_plain.proofs.NamesAfter.{name_below, kept_names, new_names, kept_there, kept_known}
+use Rattle.rw_plain.proofs.NewParts.{new_before_fewer, new_part_known}
 use Rattle.rw_plain.proofs.Parts.{value_part}
-use Rattle.rw_plain.proofs.PlainMatch.{IsPlainMatch, maps_known}
-use Rattle.rw_plain.proofs.Ranges.{range_split}
+use Rattle.rw_plain.proofs.PlainMatch.{IsPlainMatch}
+use Rattle.rw_plain.proofs.RuleMaps.{keep_known, left_natural, right_shape, right_is}
 use Rattle.rw_plain.proofs.Removed.{kept_stays, value_stays}
-
--- below a number that passes a test, fewer numbers pass it than in a longer range
-passes_before : (p : ℕ → Bool) (part later : ℕ) → p part ≡ true
-    → length (filter p (range_with_len 0 part)) < length (filter p (range_with_len 0 (part + suc later)))
-passes_before p part later passes =
-    let before = range_with_len 0 part in
-    let behind = range_with_len (part + 1) later in
-    let split : range_with_len 0 (part + suc later) ≡ before ++ part ∷ behind = range_split 0 part (suc later) ∙ rw (zero-add part) refl in
-    let kept : filter p (range_with_len 0 (part + suc later)) ≡ filter p before ++ part ∷ filter p behind =
-    rw split (filter-append p before (part ∷ behind) ∙ rw passes refl) in
-    rw (kept, length-append (filter p before) (part ∷ filter p behind)) (omega arith)
-
--- before a new part there are fewer new parts than in all
-new_before_fewer : (rule : RuleLists) (object part : ℕ) → part < size_of rule.right object → is_image rule.r object part ≡ false
-    → new_before rule object part < length (new_parts rule object)
-new_before_fewer rule object part there fresh =
-    let p : ℕ → Bool = λ part. not (is_image rule.r object part) in
-    let size = size_of rule.right object in
-    let later : ℕ = size - suc part in
-    let long : part + suc later ≡ size = omega arith in
-    subst (λ (size : ℕ). new_before rule object part < length (filter p (range_with_len 0 size))) long
-    (passes_before p part later (not_from_false (is_image rule.r object part) fresh))
 
 -- the name of the image of a kept part, or of a new part, is a name after the step
 name_from_there : (C : Signature) (rule : RuleLists) (tuple : List ℕ) (X : Instance) (next : List ℕ) (object part : ℕ) (place : Option ℕ) → IsRuleOver C rule → IsPlainMatch C rule tuple X
@@ -62,31 +39,30 @@ name_from_there C rule tuple X next object part None over match known there plac
 name_from_there C rule tuple X next object part (Some kept) over match known there place_is =
     let left = rule.goal.left in
     let found = position-Some (λ image. image == part) (list_at rule.r object) kept 0 place_is in
-    let sized : object < length rule.keep.sizes = rw (is_pattern C rule.keep over.parts.keep).sizes_long known in
     let long : length (list_at rule.r object) ≡ size_of rule.keep object =
-    images_long rule.keep rule.r object (is_map C rule.keep rule.right rule.r (maps_known C rule over).1).shape sized in
+    images_long rule.keep rule.r object (right_shape C rule over) (keep_known C rule object over known) in
     let kept_part : kept < size_of rule.keep object = rw (← long) found.0 in
     let image : ℕ = image_of rule.l object kept in
     let image_there : Has (instance_of_pattern left) object image =
-    (natural_from_map C rule.keep left rule.l (is_pattern C rule.keep over.parts.keep) (maps_known C rule over).0).parts object kept known (has_part rule.keep object kept kept_part) in
+    (left_natural C rule over).parts object kept known (has_part rule.keep object kept kept_part) in
     kept_there rule tuple X next object (map_of_tuple left tuple object image) (match.natural.parts object image known image_there)
     (kept_stays C rule tuple X object kept over match known kept_part)
 
 -- the name of a part of the right pattern is a name after the step
-right_there : (C : Signature) (rule : RuleLists) (tuple : List ℕ) (X : Instance) (next : List ℕ) (object part : ℕ) → IsRuleOver C rule → IsPlainMatch C rule tuple X
+pub right_there : (C : Signature) (rule : RuleLists) (tuple : List ℕ) (X : Instance) (next : List ℕ) (object part : ℕ) → IsRuleOver C rule → IsPlainMatch C rule tuple X
     → object < C.objects → part < size_of rule.right object → Contains (names_after rule tuple X next object) (name_of_right rule tuple next object part)
 right_there C rule tuple X next object part over match known there =
     name_from_there C rule tuple X next object part (position (λ image. image == part) (list_at rule.r object)) over match known there refl
 
 -- the new part that has a name is a part of the right pattern
-new_part_there : (rule : RuleLists) (next : List ℕ) (object name : ℕ) → Contains (new_names rule next object) name
+pub new_part_there : (rule : RuleLists) (next : List ℕ) (object name : ℕ) → Contains (new_names rule next object) name
     → part_of_name rule next object name < size_of rule.right object
 new_part_there rule next object name there =
     let fresh = new_parts rule object in
     let bounds = range_bounds (slice_index next object) (length fresh) name there in
     let place : ℕ = name - slice_index next object in
     let within : place < length fresh = omega (arith, bounds.0, bounds.1) in
-    new_part_within rule object place within
+    (new_part_known rule object place within).0
 
 -- where an arrow leads from a new name is a name after the step
 pub new_value_there : (C : Signature) (rule : RuleLists) (tuple : List ℕ) (X : Instance) (next : List ℕ) (a : ℕ) (ends : ArrowEnds) (name : ℕ) → IsCategory C
@@ -100,7 +76,7 @@ new_value_there C rule tuple X next a ends name category over match there fresh 
     let part : ℕ = part_of_name rule next source name in
     let image : ℕ = slice_index (list_at rule.right.rows a) part in
     let image_there : image < size_of rule.right target =
-    value_part C rule.right a ends part over.parts.right there (new_part_there rule next source name fresh) in
+    value_part C rule.right a ends part (right_is C rule over) there (new_part_there rule next source name fresh) in
     let is : value_after C rule tuple X next a name ≡ name_of_right rule tuple next target image =
     value_at_new C rule tuple X next a ends name there bounds.0 in
     rw is (right_there C rule tuple X next target image over match (category.targets a ends there) image_there)

@@ -1,5 +1,5 @@
 -- Parts of patterns: tests of them, their images under a map, and where an arrow leads from them.
-use Rattle.std.proofs.Common.{◌≡◌, ◌∙◌, ℕ, ◌<◌, Bool, true, List, length, get_or, None, Some, slice_get, slice_index, zero-add}
+use Rattle.std.proofs.Common.{◌≡◌, ◌∙◌, ℕ, ◌<◌, Bool, true, List, length, get_or, Some, slice_get, slice_index, zero-add}
 use Rattle.std.specs.List.{Contains, list_any}
 use Rattle.std.proofs.lemmas.List.{get_or_default}
 use Rattle.std.proofs.lemmas.List.Elements.{Contains-get_or}
@@ -11,11 +11,10 @@ use Rattle.rw_schema.specs.RowLists.{list_at}
 use Rattle.rw_schema.specs.Signature.{Signature}
 use Rattle.rw_spec.proofs.Look.{contains_found, found_contained}
 use Rattle.rw_pattern.specs.MapFaults.{image_of, has_map_shape}
-use Rattle.rw_pattern.specs.PatternFaults.{pattern_fault}
 use Rattle.rw_pattern.specs.PatternLists.{PatternLists, size_of}
 use Rattle.rw_pattern.proofs.Maps.{images_long}
 use Rattle.rw_pattern.proofs.PartNames.{part_below}
-use Rattle.rw_pattern.proofs.Shapes.{is_pattern, row_long, image_within}
+use Rattle.rw_pattern.proofs.Shapes.{IsPattern, row_long, image_within}
 use Rattle.rw_plain.specs.PlainStep.{parts_of, is_image}
 
 -- a part that passes a test that some part passes
@@ -49,10 +48,9 @@ image_found from images object kept shaped known there =
     found_contained list (image_of images object kept) (Contains-get_or list kept 0 (rw (images_long from images object shaped known) there))
 
 -- where an arrow leads from a part is a part
-pub value_part : (C : Signature) (pattern : PatternLists) (a : ℕ) (ends : ArrowEnds) (part : ℕ) → pattern_fault C pattern ≡ None
+pub value_part : (C : Signature) (pattern : PatternLists) (a : ℕ) (ends : ArrowEnds) (part : ℕ) → IsPattern C pattern
     → slice_get C.arrows a ≡ Some ends → part < size_of pattern ends.source.0 → slice_index (list_at pattern.rows a) part < size_of pattern ends.target.0
-value_part C pattern a ends part none there part_there =
+value_part C pattern a ends part is there part_there =
     let row = list_at pattern.rows a in
-    let is = is_pattern C pattern none in
     let short : part < length row = rw (row_long C pattern a ends is there) part_there in
     image_within C pattern a ends part (slice_index row part) is there (slice_get-get_or row part 0 short)

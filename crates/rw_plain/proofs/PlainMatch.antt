@@ -1,38 +1,20 @@
--- The matches at which a plain rule is applied are injective.
-use Rattle.std.proofs.Common.{◌≡◌, ◌∙◌, ℕ, ◌<◌, Bool, true, false, ◌||◌, nat_le, is_none, List, length, get_or, Option, slice_get, Some, None, refl, ap, inl, inr, zero-add, arith}
-use Rattle.std.proofs.lemmas.Bool.{and_parts, or_cases, leb-true}
+-- Steps of plain rules: their matches are injective.
+use Rattle.std.proofs.Common.{◌≡◌, ◌∙◌, ℕ, ◌<◌, Bool, true, false, ◌||◌, nat_le, List, length, get_or, slice_get, Some, None, ap, inl, inr, zero-add, arith}
+use Rattle.std.proofs.lemmas.Bool.{or_cases, leb-true}
 use Rattle.std.proofs.lemmas.Option.{slice_get-get_or}
-use Rattle.rw_schema.specs.First.{fault_unless}
-use Rattle.rw_schema.specs.Signature.{Signature}
-use Rattle.rw_schema.proofs.Firsts.{or_else_none, passed_unless}
-use Rattle.rw_spec.specs.Instance.{Instance}
+use Rattle.rw_schema.specs.RowLists.{RowLists}
+use Rattle.rw_schema.specs.Signature.{Signature, IsCategory}
+use Rattle.rw_spec.specs.Instance.{Instance, instance_of}
 use Rattle.rw_spec.specs.Natural.{IsNatural, IsInjectiveOn}
-use Rattle.rw_pattern.specs.MapFaults.{map_fault}
+use Rattle.rw_table.specs.TableFaults.{table_fault}
 use Rattle.rw_pattern.specs.PatternLists.{size_of, instance_of_pattern, map_of_tuple}
 use Rattle.rw_pattern.proofs.PartNames.{has_part}
 use Rattle.rw_pattern.proofs.Sequences.{all_in_at}
 use Rattle.rw_rule.specs.PlainRules.{is_single_or_monic, is_monic_where_many, is_plain}
-use Rattle.rw_rule.specs.RuleFaults.{is_injective, are_maps, IsRuleOver}
+use Rattle.rw_rule.specs.RuleFaults.{IsRuleOver}
 use Rattle.rw_rule.specs.RuleLists.{RuleLists}
-use Rattle.rw_rule.specs.declared.fault.RuleFault.TheVariants.{NotHom, NotInjective}
 use Rattle.rw_plain.specs.Obstructions.{dangling}
-
--- nothing is there where a test finds nothing
-none_there : {A : Type 0} (answer : Option A) → is_none answer ≡ true → answer ≡ None
-none_there None none = refl
-none_there (Some a) none = cc
-
--- both maps of a rule are maps of patterns
-pub maps_known : (C : Signature) (rule : RuleLists) → IsRuleOver C rule
-    → (map_fault C rule.keep rule.goal.left rule.l ≡ None) × (map_fault C rule.keep rule.right rule.r ≡ None)
-maps_known C rule over =
-    let left = map_fault C rule.keep rule.goal.left rule.l in
-    let right = map_fault C rule.keep rule.right rule.r in
-    let maps : are_maps C rule ≡ true =
-    passed_unless (are_maps C rule) NotHom
-    (or_else_none (fault_unless (are_maps C rule) NotHom) (fault_unless (is_injective rule.keep rule.l) NotInjective) over.sound).0 in
-    let both = and_parts (is_none left) (is_none right) maps in
-    (none_there left both.0, none_there right both.1)
+use Rattle.rw_plain.proofs.RuleMaps.{plain_known}
 
 -- an injective match of a rule, at which no arrow dangles
 pub record IsPlainMatch (C : Signature) (rule : RuleLists) (tuple : List ℕ) (X : Instance) : Type 0 where
@@ -42,7 +24,7 @@ pub record IsPlainMatch (C : Signature) (rule : RuleLists) (tuple : List ℕ) (X
   pub safe : dangling C rule tuple X ≡ None
 
 -- where each object with two parts or more is monic, a match that is injective on monic objects is injective
-pub is_plain_match : (C : Signature) (rule : RuleLists) (tuple : List ℕ) (X : Instance) → IsRuleOver C rule → is_plain rule ≡ true
+pub is_plain_match : (C : Signature) (rule : RuleLists) (tuple : List ℕ) (X : Instance) → IsRuleOver C rule → is_plain C rule ≡ true
     → IsNatural C (instance_of_pattern rule.goal.left) X (map_of_tuple rule.goal.left tuple)
     → IsInjectiveOn rule.goal.monic (instance_of_pattern rule.goal.left) (map_of_tuple rule.goal.left tuple)
     → dangling C rule tuple X ≡ None → IsPlainMatch C rule tuple X
@@ -51,7 +33,7 @@ is_plain_match C rule tuple X over plain natural injective safe = record {
   injective = λ object part other known there other_there same.
       let left = rule.goal.left in
       let monic = rule.goal.monic in
-      let marked : is_monic_where_many left monic ≡ true = (and_parts (is_injective rule.keep rule.r) (is_monic_where_many left monic) plain).1 in
+      let marked : is_monic_where_many left monic ≡ true = (plain_known C rule plain).monic in
       let within : object < length monic = rw over.parts.goal.monic known in
       let mark : Bool = get_or monic object false in
       let mark_is : slice_get monic object ≡ Some mark = slice_get-get_or monic object false within in
@@ -62,3 +44,11 @@ is_plain_match C rule tuple X over plain natural injective safe = record {
       ];
   safe = safe;
 }
+
+-- a step of a plain rule: the rule, the lists before, and a match at which no arrow dangles
+pub record IsPlainStep (C : Signature) (rule : RuleLists) (tuple : List ℕ) (rows : RowLists) : Type 0 where
+  pub category : IsCategory C
+  pub over : IsRuleOver C rule
+  pub plain : is_plain C rule ≡ true
+  pub sound : table_fault C rows ≡ None
+  pub match : IsPlainMatch C rule tuple (instance_of C rows)

@@ -1,5 +1,5 @@
 -- What a step at a plain match does not remove: the name of a kept part, and where an arrow leads from a name that stays.
-use Rattle.std.proofs.Common.{◌≡◌, ◌==◌, ◌∙◌, ℕ, ◌+◌, ◌<◌, true, false, not, ◌&&◌, List, length, Option, slice_get, Some, None, ap, inl, inr, zero-add, eqb-true}
+use Rattle.std.proofs.Common.{◌≡◌, ◌==◌, ◌∙◌, ℕ, ◌+◌, ◌<◌, true, false, not, ◌&&◌, List, Option, slice_get, Some, None, ap, inl, inr, zero-add, eqb-true}
 use Rattle.std.proofs.lemmas.Bool.{and_parts, and_from, and_cases, not-true, not-false, not_from_false, false_from_ne_true, true_from_ne_false, both_ways, cases_Bool}
 use Rattle.std.proofs.lemmas.Option.{slice_get-get_or}
 use Rattle.rw_schema.specs.declared.signature.ArrowEnds.{ArrowEnds}
@@ -7,12 +7,9 @@ use Rattle.rw_schema.specs.First.{fault_unless}
 use Rattle.rw_schema.specs.Signature.{Signature, IsCategory}
 use Rattle.rw_schema.proofs.Firsts.{first_none, passed_unless}
 use Rattle.rw_spec.specs.Instance.{Instance, Has}
-use Rattle.rw_spec.specs.Natural.{IsNatural}
-use Rattle.rw_pattern.specs.MapFaults.{image_of, has_map_shape}
+use Rattle.rw_pattern.specs.MapFaults.{image_of}
 use Rattle.rw_pattern.specs.PatternLists.{size_of, instance_of_pattern, map_of_tuple}
-use Rattle.rw_pattern.proofs.Maps.{is_map, natural_from_map}
 use Rattle.rw_pattern.proofs.PartNames.{part_below, has_part}
-use Rattle.rw_pattern.proofs.Shapes.{is_pattern}
 use Rattle.rw_rule.specs.RuleFaults.{IsRuleOver}
 use Rattle.rw_rule.specs.RuleLists.{RuleLists}
 use Rattle.rw_rule.specs.declared.refusal.Refusal.{Refusal}
@@ -20,20 +17,8 @@ use Rattle.rw_rule.specs.declared.refusal.Refusal.TheVariants.{Dangling}
 use Rattle.rw_plain.specs.PlainStep.{is_image, is_matched, is_removed}
 use Rattle.rw_plain.specs.Obstructions.{dangles, dangling_at}
 use Rattle.rw_plain.proofs.Parts.{part_passes, some_passes, image_from, image_found, value_part}
-use Rattle.rw_plain.proofs.PlainMatch.{IsPlainMatch, maps_known}
-
--- the map to the left pattern is natural
-left_natural : (C : Signature) (rule : RuleLists) → IsRuleOver C rule
-    → IsNatural C (instance_of_pattern rule.keep) (instance_of_pattern rule.goal.left) (image_of rule.l)
-left_natural C rule over = natural_from_map C rule.keep rule.goal.left rule.l (is_pattern C rule.keep over.parts.keep) (maps_known C rule over).0
-
--- each object has as many images in the left pattern as it has kept parts
-left_shape : (C : Signature) (rule : RuleLists) → IsRuleOver C rule → has_map_shape rule.keep rule.l ≡ true
-left_shape C rule over = (is_map C rule.keep rule.goal.left rule.l (maps_known C rule over).0).shape
-
--- the kept pattern has a size for each object
-keep_known : (C : Signature) (rule : RuleLists) (object : ℕ) → IsRuleOver C rule → object < C.objects → object < length rule.keep.sizes
-keep_known C rule object over known = rw (is_pattern C rule.keep over.parts.keep).sizes_long known
+use Rattle.rw_plain.proofs.PlainMatch.{IsPlainMatch}
+use Rattle.rw_plain.proofs.RuleMaps.{keep_is, keep_known, left_natural, left_shape}
 
 -- the name of a kept part is not removed
 pub kept_stays : (C : Signature) (rule : RuleLists) (tuple : List ℕ) (X : Instance) (object kept : ℕ) → IsRuleOver C rule → IsPlainMatch C rule tuple X
@@ -101,7 +86,7 @@ value_kept C rule tuple X a ends kept category over match there kept_there =
     ap (map_of_tuple left tuple target) square ∙ match.natural.commutes a ends image there has_image in
     rw (← same)
     (kept_stays C rule tuple X target value over match (category.targets a ends there)
-    (value_part C rule.keep a ends kept over.parts.keep there kept_there))
+    (value_part C rule.keep a ends kept (keep_is C rule over) there kept_there))
 
 -- where an arrow leads from a name that is not removed is not removed
 pub value_stays : (C : Signature) (rule : RuleLists) (tuple : List ℕ) (X : Instance) (a : ℕ) (ends : ArrowEnds) (name : ℕ) → IsCategory C → IsRuleOver C rule → IsPlainMatch C rule tuple X

@@ -10,19 +10,19 @@ use Rattle.rw_pattern.specs.MapFaults.{image_of}
 use Rattle.rw_pattern.specs.PatternLists.{size_of}
 use Rattle.rw_pattern.proofs.Maps.{IsMap, is_map, lists_long, images_long}
 use Rattle.rw_pattern.proofs.Places.{parts_within}
-use Rattle.rw_pattern.proofs.Shapes.{IsPattern, is_pattern, row_long, ends_at}
+use Rattle.rw_pattern.proofs.Shapes.{IsPattern, row_long, ends_at}
 use Rattle.rw_rule.specs.RuleFaults.{IsRuleOver}
 use Rattle.rw_rule.specs.RuleLists.{RuleLists}
 use Rattle.rw_plain.proofs.Parts.{value_part}
-use Rattle.rw_plain.proofs.PlainMatch.{maps_known}
+use Rattle.rw_plain.proofs.RuleMaps.{left_is, keep_is, right_is, maps_known}
 use Rattle.rw_plain.specs.RuleParts.{HasObject, HasArrow}
 
 -- a rule over a signature has each of its objects
 pub object_known : (C : Signature) (rule : RuleLists) (object : ℕ) → IsRuleOver C rule → object < C.objects → HasObject rule object
 object_known C rule object is known =
-    let left : IsPattern C rule.goal.left = is_pattern C rule.goal.left is.parts.goal.left in
-    let keep : IsPattern C rule.keep = is_pattern C rule.keep is.parts.keep in
-    let right : IsPattern C rule.right = is_pattern C rule.right is.parts.right in
+    let left : IsPattern C rule.goal.left = left_is C rule is in
+    let keep : IsPattern C rule.keep = keep_is C rule is in
+    let right : IsPattern C rule.right = right_is C rule is in
     let faults = maps_known C rule is in
     let l : IsMap C rule.keep rule.goal.left rule.l = is_map C rule.keep rule.goal.left rule.l faults.0 in
     let r : IsMap C rule.keep rule.right rule.r = is_map C rule.keep rule.right rule.r faults.1 in
@@ -44,7 +44,7 @@ object_known C rule object is known =
 arrow_known : (C : Signature) (rule : RuleLists) (arrow : ℕ) (ends : ArrowEnds) → IsCategory C → IsRuleOver C rule
     → slice_get C.arrows arrow ≡ Some ends → HasArrow C rule arrow ends
 arrow_known C rule arrow ends category is there =
-    let right : IsPattern C rule.right = is_pattern C rule.right is.parts.right in
+    let right : IsPattern C rule.right = right_is C rule is in
     let row : List ℕ = list_at rule.right.rows arrow in
     let long : length row ≡ size_of rule.right ends.source.0 = row_long C rule.right arrow ends right there in
     let source_known : ends.source.0 < C.objects = category.sources arrow ends there in
@@ -57,7 +57,7 @@ arrow_known C rule arrow ends category is there =
       target = object_known C rule ends.target.0 is target_known;
       row = omega (arith, right.rows_long, slice_get_within C.arrows arrow ends there);
       long = long;
-      within = λ part below. value_part C rule.right arrow ends part is.parts.right there below;
+      within = λ part below. value_part C rule.right arrow ends part right there below;
     }
 
 -- a rule over a schema has each arrow in the list of its arrows

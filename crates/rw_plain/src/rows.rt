@@ -23,7 +23,7 @@ use rw_schema::{ArrowDef, ArrowId, ObjectId, OutOfMemory, Rows, Schema};
 use rw_table::Table;
 use std::alloc::Global;
 
-/// The lists of the instance after the step. No arrow dangles, so they are an instance.
+/// The lists of the instance after the step. There are no attributes, and no arrow dangles, so they are an instance.
 pub(crate) fn rows_after(
     alloc: Global,
     schema: &Schema,
@@ -33,7 +33,7 @@ pub(crate) fn rows_after(
 ) -> Result<Rows, OutOfMemory>
     requires table { IsOver schema.now table.now }
     requires rule { IsRuleOver (signature_of schema.now) rule.now }
-    requires plain { is_plain rule.now ≡ true }
+    requires plain { is_plain (signature_of schema.now) rule.now ≡ true }
     requires tuple { Contains (matches (signature_of schema.now) rule.now.goal.left rule.now.goal.monic (instance_of_table table.now)) tuple.now }
     requires closed { dangling (signature_of schema.now) rule.now tuple.now (instance_of_table table.now) ≡ None }
     requires room { too_large rule.now table.now.rows.next ≡ None }
@@ -44,7 +44,8 @@ pub(crate) fn rows_after(
     let names = all_names_after(alloc, schema, rule, table, tuple)?;
     let arrows = schema.arrow_list();
     let rows = all_rows_after(alloc, arrows, rule, table, tuple, names.as_slice())?;
-    Ok(Rows::from_lists(names, rows, next))
+    let cells = Vec::new(alloc);
+    Ok(Rows::from_lists(names, rows, cells, next))
 }
 
 /// Of each object the names after the step.

@@ -5,7 +5,8 @@ use Rattle.rw_schema.specs.RowLists.{RowLists, list_at}
 use Rattle.rw_rule.specs.RuleLists.{RuleLists}
 use Rattle.rw_table.specs.Tabled.{Tabled, instance_of_table}
 use Rattle.rw_plain.specs.PlainStep.{new_parts, name_of_right}
-use Rattle.rw_plain.proofs.ArrowValues.{new_part_within, value_at_earlier, value_at_new}
+use Rattle.rw_plain.proofs.ArrowValues.{value_at_earlier, value_at_new}
+use Rattle.rw_plain.proofs.NewParts.{new_part_known}
 use Rattle.rw_plain.proofs.values.value_after.Goals as goal
 
 pub value_of_new-requires-clause-part : goal.value_of_new-requires-clause-part
@@ -14,7 +15,7 @@ value_of_new-requires-clause-part c =
     let source : ℕ = c.args.ends.now.source.0 in
     let first : c.next-next.result ≡ slice_index c.args.table.now.rows.next source = c.next-next.ensures ∙ ap (λ (rows : RowLists). slice_index rows.next source) c.rows.ensures.value in
     let within : c.args.name - c.next-next.result < length (new_parts rule source) = omega arith in
-    rw c.requires.parts (new_part_within rule source (c.args.name - c.next-next.result) within)
+    rw c.requires.parts (new_part_known rule source (c.args.name - c.next-next.result) within).0
 
 pub returns-then-name-next : goal.returns-then-name-next
 returns-then-name-next c =
