@@ -1,3 +1,4 @@
+mod Builds
 pub mod Entries
 mod Examples
 pub mod Injectivity
@@ -12,3 +13,4 @@ pub mod Sequences
 pub mod Shapes
 pub mod Tuples
 pub mod Valuations
+pub mod WithEntries

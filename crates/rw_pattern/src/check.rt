@@ -147,7 +147,7 @@ fn unequal_in(
 }
 
 /// The entry at a place, or 0 where none is there.
-fn entry_at(list: &[u32], place: u32) -> u32
+pub fn entry_at(list: &[u32], place: u32) -> u32
     ensures { result ≡ slice_index list.now place }
 {
     list.get(place as usize).copied().unwrap_or(0)

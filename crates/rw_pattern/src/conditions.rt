@@ -1,6 +1,7 @@
 //! Whether lists have the shape of a pattern, and few parts.
 
-ghost use Rattle.std.specs.Prelude.{◌≡◌, ◌==◌, [], true, length, map, nat_le, sum};
+ghost use Rattle.std.specs.Prelude.{◌≡◌, ◌==◌, ◌≤◌, [], true, length, map, nat_le, sum};
+ghost use Rattle.std.specs.Bool.{OnTrue};
 ghost use Rattle.std.specs.List.{list_all};
 ghost use Rattle.rw_schema.specs.First.{all_in};
 ghost use Rattle.rw_schema.specs.Presentation.{signature_of, ends_of_arrow};
@@ -12,7 +13,8 @@ use rw_schema::{ArrowDef, Schema};
 
 /// Whether there is one size for each object, and one row of the right length for each arrow. Cells have no part in it.
 pub fn are_shaped(schema: &Schema, sizes: &[u32], rows: &[Vec<u32>]) -> bool
-    ensures { result ≡ has_shape (signature_of schema.now) (record { sizes = sizes.now; rows = map (λ row. row.items) rows.now; cells = []; holders = [] }) }
+    ensures shape { result ≡ has_shape (signature_of schema.now) (record { sizes = sizes.now; rows = map (λ row. row.items) rows.now; cells = []; holders = [] }) }
+    ensures objects { OnTrue result (length sizes.now ≤ 64) }
 {
     sizes.len() == schema.objects()
         && rows.len() == schema.arrows()

@@ -7,6 +7,7 @@ ghost use Rattle.rw_spec.specs.Instance.{agrees_at, follow as end_of_path};
 ghost use Rattle.rw_pattern.specs.PatternFaults.{equation_fault, failure_of, has_shape};
 ghost use Rattle.rw_pattern.specs.PatternLists.{instance_of_pattern};
 
+use crate::check::entry_at;
 use crate::{Pattern, PatternFault};
 use rw_schema::{ArrowId, Equation, Schema};
 
@@ -57,7 +58,7 @@ fn follow(pattern: &Pattern, path: &[ArrowId], part: u32) -> u32
 {
     let mut end = part;
     for arrow in path {
-        end = pattern.image(*arrow, end);
+        end = entry_at(pattern.row(*arrow), end);
     }
     end
 }

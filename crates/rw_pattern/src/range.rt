@@ -5,7 +5,7 @@ ghost use Rattle.std.specs.List.{list_all};
 ghost use Rattle.rw_schema.specs.First.{all_in};
 ghost use Rattle.rw_schema.specs.Presentation.{signature_of, ends_of_arrow};
 ghost use Rattle.rw_pattern.specs.PatternFaults.{has_part as stands_on_part, has_shape, is_in_range, are_in_range as all_in_range};
-ghost use Rattle.rw_pattern.specs.PatternLists.{holder, holders_in};
+ghost use Rattle.rw_pattern.specs.PatternLists.{holders_in};
 
 use crate::{Pattern, PatternCell};
 use rw_schema::{ArrowId, Schema};
@@ -51,7 +51,7 @@ fn have_parts(schema: &Schema, pattern: &Pattern) -> bool
     ensures { result ≡ list_all (stands_on_part pattern.now) pattern.now.cells }
 {
     for entry in pattern.cells() {
-        if !has_part(pattern, entry) {
+        if !has_part(schema, pattern, entry) {
             return false;
         }
     }
@@ -59,10 +59,12 @@ fn have_parts(schema: &Schema, pattern: &Pattern) -> bool
 }
 
 /// Whether the entry stands on a part of its attribute's object.
-fn has_part(pattern: &Pattern, entry: &PatternCell) -> bool
-    requires attribute { entry.now.attr.0 < length pattern.now.holders }
-    requires object { holder pattern.now entry.now.attr.0 < length pattern.now.sizes }
+fn has_part(schema: &Schema, pattern: &Pattern, entry: &PatternCell) -> bool
+    requires shape { has_shape (signature_of schema.now) pattern.now ≡ true }
+    requires holders { pattern.now.holders ≡ holders_in (signature_of schema.now) }
+    requires attribute { entry.now.attr.0 < length schema.now.attributes }
     ensures { result ≡ stands_on_part pattern.now entry.now }
 {
-    entry.part < pattern.size(pattern.holder(entry.attr))
+    let object = schema.attr(entry.attr).object;
+    entry.part < pattern.size(object)
 }
