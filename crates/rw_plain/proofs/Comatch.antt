@@ -1,5 +1,5 @@
 -- The map from the right pattern to the instance after a step, which gives each part its name there, commutes with each arrow.
-use Rattle.std.proofs.Common.{◌≡◌, ◌==◌, ◌∙◌, ℕ, ◌+◌, ◌<◌, ◌≤◌, true, false, List, length, position, Option, slice_get, slice_index, Some, None, refl, sym, ap, inl, inr, arith, eqb-true, ◌-◌}
+use Rattle.std.proofs.Common.{◌≡◌, ◌==◌, ◌∙◌, ℕ, ◌+◌, ◌-◌, ◌<◌, ◌≤◌, true, false, List, length, position, Option, slice_get, slice_index, Some, None, refl, sym, ap, inl, inr, arith, eqb-true}
 use Rattle.std.specs.Option.{is_some}
 use Rattle.std.proofs.lemmas.Bool.{cases_Bool}
 use Rattle.std.proofs.lemmas.List.Elements.{Contains-get_or}
@@ -31,7 +31,7 @@ nothing_there : {A : Type 0} (answer : Option A) → is_some answer ≡ false �
 nothing_there None none = refl
 nothing_there (Some a) none = cc
 
--- where a number is found first among different ones that have it at a place, it is at that place
+-- a number that is found among different ones is found at its place
 found_at : (numbers : List ℕ) (place : ℕ) (answer : Option ℕ) → AreDistinct numbers → place < length numbers
     → position (λ other. other == slice_index numbers place) numbers ≡ answer → is_some answer ≡ true → answer ≡ Some place
 found_at numbers place None distinct within is some = cc

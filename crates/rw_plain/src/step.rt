@@ -21,7 +21,7 @@ use std::alloc::Global;
 
 /// Applies a plain double-pushout rule at a match, or gives the first obstruction. The table stays as it is; the
 /// instance after the step is made anew. Names of parts that stay are kept, each new part takes the next name of its
-/// object, and a name is never used again.
+/// object, and a name is never used again. The equations of the schema, which hold before the step, hold after it.
 ///
 /// Ehrig, Pfender and Schneider, "Graph-grammars: an algebraic approach" (1973), define the step by two pushouts; where
 /// both maps and the match are injective it is this one.
