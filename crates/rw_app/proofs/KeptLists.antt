@@ -1,5 +1,5 @@
 -- The kept lists are those of the rules and then those of the watches.
-use Rattle.std.proofs.Common.{◌≡◌, ◌++◌, List, [], ◌∷◌, map, refl, subst, arith}
+use Rattle.std.proofs.Common.{◌≡◌, ◌∙◌, ◌++◌, ℕ, List, [], ◌∷◌, map, length, refl, sym, ap, subst, arith}
 use Rattle.std.specs.List.{All}
 use Rattle.std.proofs.lemmas.List.{get_or-map, length-map, map-append}
 use Rattle.rw_schema.specs.Presentation.{signature_of}
@@ -16,6 +16,11 @@ use Rattle.rw_app.specs.Kept.{goal_of_rule, list_in, lists_in}
 map_twice : {X Y Z : Type 0} (f : X → Y) (g : Y → Z) (xs : List X) → map g (map f xs) ≡ map (λ x. g (f x)) xs
 map_twice f g [] = refl
 map_twice f g (x ∷ xs) = rw (map_twice f g xs) refl
+
+-- the lengths of vectors that have these lists
+pub kept_lengths : {X : Type 0} (items : X → List (List ℕ)) (vectors : List X) (lists : List (List (List ℕ))) → map items vectors ≡ lists
+    → map (λ vector. length (items vector)) vectors ≡ map length lists
+kept_lengths items vectors lists are = sym (map_twice items length vectors) ∙ ap (map length) are
 
 -- what holds of the lists of all watches holds of each watch
 pub each_watch : (P : WatchLists → Type 0) (watches : List Watch) → All P (map lists_of_watch watches) → All (λ watch. P (lists_of_watch watch)) watches

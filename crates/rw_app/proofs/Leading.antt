@@ -139,3 +139,20 @@ run_spent document rule others fuel rows written firings ran rules begun world t
       last_rows = refl;
       world = world;
     }
+
+-- a list without a first item is empty
+pub none_first : {X : Type 0} (xs : List X) → slice_get xs 0 ≡ None → xs ≡ []
+none_first [] none = refl
+none_first (x ∷ xs) none = let never : ⊥ = cc in absurd never
+
+-- without rules the first box is the exit, so the run is done at once
+pub run_without_rules : (document : DocumentLists) (fuel : ℕ) (rows : RowLists) (ran : Ran) → document.rules ≡ [] → ran.text.items ≡ []
+    → ran.end ≡ Done → ran.fuel ≡ fuel → ran.world.table.rows ≡ rows → IsWorld document ran.world
+    → HasRun document fuel rows ran [] (at_first fuel rows)
+run_without_rules document fuel rows ran none text ended left same world = record {
+  text = text;
+  leads = rw (none, ended) (refl, refl);
+  fuel_left = sym left;
+  last_rows = sym same;
+  world = world;
+}

@@ -1,9 +1,10 @@
 //! The answer of a command: from the bytes of a document to a status and a text.
 
-ghost use Rattle.std.specs.Prelude.{◌≡◌, IfOk, None, Ok, find};
+ghost use Rattle.std.specs.Prelude.{◌≡◌, IfOk, None, Ok, find, length, map};
 ghost use Rattle.rw_schema.specs.Presentation.{signature_of};
 ghost use Rattle.std.specs.Option.{option_map};
 ghost use Rattle.std.specs.Str.{bytes_eq};
+ghost use Rattle.rw_table.specs.Tabled.{IsOver};
 ghost use Rattle.rw_rule.specs.RuleFaults.{IsGoalOver};
 ghost use Rattle.rw_rule.specs.RuleParts.{goal_of_parts};
 ghost use Rattle.rw_docrule.specs.Models.{document_lists, IsSound};
@@ -11,6 +12,9 @@ ghost use Rattle.rw_app.specs.Answers.{IsAnswer, IsAnswerTo, checked, listed, re
 ghost use Rattle.rw_app.specs.AnswerTexts.{text_of_answer};
 ghost use Rattle.rw_app.specs.Commands.{asked_for, matches};
 ghost use Rattle.rw_app.specs.Kept.{named_goals};
+ghost use Rattle.rw_app.specs.RunTexts.{sizes_in};
+ghost use Rattle.rw_app.specs.declared.status.Status.TheVariants.{Done};
+ghost use Rattle.rw_print.specs.Lines.{line, check_data};
 
 use crate::counts::{lengths_of, sizes_of};
 use crate::kept::kept_lists;
@@ -21,7 +25,9 @@ use rw_doc::{DocFault, ReadDocEnd};
 use rw_docrule::{Document, read_document};
 use rw_lists::fresh_list;
 use rw_print::{check_line, fault_line, matches_line};
-use rw_schema::{OutOfMemory, Section};
+use rw_pattern::Tuple;
+use rw_schema::{MOST_OBJECTS, OutOfMemory, Schema, Section};
+use rw_table::Table;
 use std::alloc::Global;
 
 /// What a command answers: how it ends, and the text that it writes.
@@ -102,8 +108,25 @@ fn check_document(alloc: Global, document: &Document) -> Result<Answer, OutOfMem
     ensures { IfOk result (λ answer. text_of_answer answer ≡ checked (document_lists document.now)) }
 {
     let kept = kept_lists(alloc, document, &document.table)?;
-    let lists = lengths_of(alloc, kept.as_slice())?;
-    let sizes = sizes_of(alloc, document.table.rows())?;
+    count_lists(alloc, &document.schema, &document.table, kept.as_slice())
+}
+
+/// The lengths of the lists, and the numbers of parts in the table.
+fn count_lists(
+    alloc: Global,
+    schema: &Schema,
+    table: &Table,
+    kept: &[Vec<Tuple>],
+) -> Result<Answer, OutOfMemory>
+    requires { IsOver schema.now table.now }
+    ensures { IfOk result (λ answer. text_of_answer answer ≡ record {
+      status = Done;
+      text = line (check_data (map (λ list. length list.items) kept.now) (sizes_in table.now.rows));
+    }) }
+{
+    prove!(schema.objects() <= MOST_OBJECTS);
+    let lists = lengths_of(alloc, kept)?;
+    let sizes = sizes_of(alloc, table.rows())?;
     let text = check_line(alloc, &lists, &sizes)?;
     Ok(Answer {
         status: Status::Done,

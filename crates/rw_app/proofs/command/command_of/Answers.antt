@@ -8,4 +8,5 @@ returns-in_default c =
     let others : List (List ℕ) = map string_bytes c.in_ok-word.others.now in
     let no_matches : word ≢ codes "matches" = rw c.as_str.ensures.value at c.in_default.not-matches in
     let no_run : word ≢ codes "run" = rw c.as_str.ensures.value at c.in_default.not-run in
-    rw (← c.as_slice.ensures.value, c.in_ok-word.ensures.cases.0) (no_command word others no_matches no_run)
+    let no_check : word ≢ codes "check" = rw c.as_str.ensures.value at c.in_default.not-check in
+    rw (← c.as_slice.ensures.value, c.in_ok-word.ensures.cases.0) (no_command word others no_matches no_run no_check)

@@ -1,0 +1,12 @@
+-- The lengths are those of the kept lists.
+use Rattle.std.proofs.Common.{◌≡◌, List, ℕ, map, length}
+use Rattle.rw_docrule.specs.Models.{document_lists}
+use Rattle.rw_app.specs.Kept.{lists_in}
+use Rattle.rw_app.proofs.KeptLists.{kept_lengths}
+use Rattle.rw_app.proofs.answer.check_document.Goals as goal
+
+pub returns : goal.returns
+returns c =
+    let lists : List (List (List ℕ)) = lists_in (document_lists c.args.document.now) c.args.document.now.table.rows in
+    let lengths : map (λ list. length list.items) c.in_ok-kept.kept.items ≡ map length lists = kept_lengths (λ list. list.items) c.in_ok-kept.kept.items lists c.in_ok-kept.ensures in
+    rw (c.as_slice.ensures.value, lengths) at c.count_lists.ensures
