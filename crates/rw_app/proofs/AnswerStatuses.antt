@@ -7,7 +7,7 @@ use Rattle.rw_docrule.specs.Models.{DocumentLists}
 use Rattle.rw_print.specs.declared.last.End.{End}
 use Rattle.rw_print.specs.declared.last.End.TheVariants.{Done, Failed, Spent}
 use Rattle.rw_app.specs.Answers.{AnswerText, listed, status_of_end, IsAnswerTo}
-use Rattle.rw_app.specs.Commands.{Request, matches, run}
+use Rattle.rw_app.specs.Commands.{Request, matches, run, check}
 use Rattle.rw_app.specs.Endings.{IsOfAnswer}
 use Rattle.rw_app.specs.Kept.{named_goals}
 
@@ -28,5 +28,6 @@ status_of_answer request (Err fault) answer is = subst (λ (answer : AnswerText)
 status_of_answer (matches name) (Ok document) answer is =
     subst (λ (answer : AnswerText). IsOfAnswer answer.status) (sym is)
     (status_of_listed document (find (λ named. bytes_eq name named.name) (named_goals document)))
+status_of_answer check (Ok document) answer is = subst (λ (answer : AnswerText). IsOfAnswer answer.status) (sym is) tt
 status_of_answer (run fuel seed) (Ok document) answer is =
     subst (λ (answer : AnswerText). IsOfAnswer answer.status) (sym is.2) (status_at_end is.0.end)
