@@ -5,8 +5,11 @@ use Rattle.serde_json.specs.Data.{Data}
 use Rattle.rw_schema.specs.Presentation.{Presentation}
 use Rattle.rw_rule.specs.RuleLists.{RuleLists, WatchLists}
 use Rattle.rw_doc.specs.Chain.{and_then, each_in}
-use Rattle.rw_doc.specs.Documents.{not_built, read_items, read_at_most, read_rule, are_rules_apart, rules_or_none, read_watch, are_watches_apart, watches_or_none}
-use Rattle.rw_doc.proofs.Chains.{chain, passed}
+use Rattle.rw_doc.proofs.Chains.{chain}
+use Rattle.rw_docrule.specs.Readings.{not_built, read_at_most, read_items}
+use Rattle.rw_docrule.specs.Rules.{are_rules_apart, read_rule, rules_or_none}
+use Rattle.rw_docrule.specs.Watches.{are_watches_apart, read_watch, watches_or_none}
+use Rattle.rw_docrule.proofs.Checked.{passed}
 
 -- the list has at most so many items
 abbrev IsFew : {A : Type 0} → ℕ → List A → Type 0

@@ -1,6 +1,7 @@
-pub mod Examples
+mod Checked
 pub mod Few
-pub mod Names
+pub mod FirstPlaces
+pub mod NamesBefore
 pub mod SoundPatterns
 pub mod SoundRules
 pub mod SoundTable

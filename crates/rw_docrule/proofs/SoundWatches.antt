@@ -1,5 +1,5 @@
 -- The goals of the watches that are read are over the schema.
-use Rattle.std.proofs.Common.{◌≡◌, Option, Some, None, Ok, List, [], ◌∷◌, length, codes, subst}
+use Rattle.std.proofs.Common.{◌≡◌, Option, Some, None, Ok, List, [], codes, subst}
 use Rattle.std.specs.List.{All}
 use Rattle.std.proofs.lemmas.List.Elements.{All-nil}
 use Rattle.serde_json.specs.Data.{Data}
@@ -8,9 +8,12 @@ use Rattle.rw_schema.specs.Signature.{Signature}
 use Rattle.rw_rule.specs.RuleFaults.{IsGoalOver}
 use Rattle.rw_rule.specs.RuleLists.{RuleLists, WatchLists}
 use Rattle.rw_doc.specs.Chain.{each_in}
-use Rattle.rw_doc.specs.Documents.{not_built, with_keys, read_at_most, pattern_at, marks_of, read_name, read_watch, are_watches_apart, read_watches, watches_or_none}
-use Rattle.rw_doc.proofs.Chains.{chain, passed, each}
-use Rattle.rw_doc.proofs.SoundPatterns.{pattern_at_over, marks_long}
+use Rattle.rw_doc.proofs.Chains.{chain, each}
+use Rattle.rw_docrule.specs.Patterns.{read_monic, read_pattern}
+use Rattle.rw_docrule.specs.Readings.{needed, not_built, read_at_most, read_name, with_keys}
+use Rattle.rw_docrule.specs.Watches.{are_watches_apart, read_watch, read_watches, watch_keys, watches_or_none}
+use Rattle.rw_docrule.proofs.Checked.{passed}
+use Rattle.rw_docrule.proofs.SoundPatterns.{monic_long, pattern_over}
 
 -- the goal of a watch is over the signature
 abbrev pub IsWatchOver : Signature → WatchLists → Type 0
@@ -20,10 +23,12 @@ IsWatchOver C watch = IsGoalOver C watch.goal
 watch_over : (schema : Presentation) (value : Data) (watch : WatchLists) → read_watch schema value ≡ Ok watch → IsWatchOver (signature_of schema) watch
 watch_over schema value =
     let C : Signature = signature_of schema in
-    chain (IsWatchOver C) (with_keys (codes "name" ∷ codes "pattern" ∷ []) value) _
-    (λ value keys. chain (IsWatchOver C) (read_name value) _ (λ name named. chain (IsWatchOver C) (pattern_at C (codes "pattern") value) _ (λ pattern there watch is.
-    let same : record { name = name; goal = record { left = pattern; monic = marks_of (length schema.objects) [] } } ≡ watch = cc in
-    subst (IsWatchOver C) same (record { left = pattern_at_over C (codes "pattern") value pattern there; monic = marks_long (length schema.objects) [] }))))
+    chain (IsWatchOver C) (with_keys watch_keys value) _
+    (λ value keys. chain (IsWatchOver C) (read_name value) _ (λ name named. chain (IsWatchOver C) (needed (codes "pattern") value) _
+    (λ written there. chain (IsWatchOver C) (read_pattern schema written) _ (λ read is_read. chain (IsWatchOver C) (read_monic schema.objects value) _
+    (λ monic marks watch is.
+    let same : record { name = name; goal = record { left = read.pattern; monic = monic; kinds = read.kinds } } ≡ watch = cc in
+    subst (IsWatchOver C) same (record { left = pattern_over schema written read is_read; monic = monic_long schema.objects value monic marks }))))))
 
 -- so is that of each watch that is written
 watches_over : (schema : Presentation) (rules : List RuleLists) (value : Data) (watches : List WatchLists)

@@ -1,5 +1,6 @@
 pub mod Documents
 pub mod Models
+pub mod Numbering
 pub mod Patterns
 pub mod Readings
 pub mod Rules

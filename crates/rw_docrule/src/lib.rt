@@ -2,6 +2,7 @@
 #![tactic(auto)]
 
 mod document;
+mod entries;
 mod json;
 mod monic;
 mod names;
@@ -10,6 +11,7 @@ mod read;
 mod rules;
 #[cfg(test)]
 mod tests;
+mod variables;
 mod watches;
 mod written;
 

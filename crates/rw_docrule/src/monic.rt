@@ -1,14 +1,14 @@
-//! The objects that a rule lists as monic.
+//! The objects that a rule or a watch lists as monic.
 
 ghost use Rattle.std.specs.Prelude.{◌≡◌, ◌==◌, IfOk, map, option_map};
 ghost use Rattle.std.specs.List.{list_any};
 ghost use Rattle.serde_json.specs.View.{view};
 ghost use Rattle.rw_doc.specs.Chain.{each_in};
-ghost use Rattle.rw_doc.specs.Documents as spec;
 ghost use Rattle.rw_doc.specs.Gives.{Gives};
+ghost use Rattle.rw_docrule.specs.Patterns as spec;
 
-use crate::ReadDocEnd;
 use crate::json::{NOT_BUILT, read_items, read_str};
+use rw_doc::ReadDocEnd;
 use rw_schema::{ObjectId, OutOfMemory, Schema};
 use serde_json::Value;
 use std::alloc::Global;
@@ -55,7 +55,7 @@ fn is_listed(listed: &[ObjectId], object: usize) -> bool
 }
 
 /// Of each object whether it is listed.
-pub(crate) fn marks_of(
+fn marks_of(
     alloc: Global,
     objects: usize,
     listed: &[ObjectId],

@@ -1,28 +1,29 @@
-//! The names of rules and watches.
+//! The names of rules, watches and variables.
 
-ghost use Rattle.std.specs.Prelude.{◌≡◌, ◌&&◌, length, nat_le};
+ghost use Rattle.std.specs.Prelude.{◌≡◌};
 ghost use Rattle.serde_json.specs.View.{view};
-ghost use Rattle.rw_doc.specs.Documents as spec;
+ghost use Rattle.rw_schema.specs.SchemaFaults.{is_name};
 ghost use Rattle.rw_doc.specs.Gives.{Gives};
+ghost use Rattle.rw_docrule.specs.Readings as spec;
 
-use crate::ReadDocEnd;
 use crate::json::{NOT_BUILT, needed, read_text};
+use rw_doc::ReadDocEnd;
 use rw_schema::{LONGEST_NAME, Text};
 use serde_json::Value;
 use std::alloc::Global;
 
-/// Whether a name may have so many bytes.
-fn is_name_length(length: usize) -> bool
-    ensures { result ≡ (nat_le 1 length && nat_le length 255) }
+/// Whether the text has the length of a name.
+pub(crate) fn has_name_length(name: &Text) -> bool
+    ensures { result ≡ is_name name.now }
 {
-    1 <= length && length <= LONGEST_NAME
+    1 <= name.len() && name.len() <= LONGEST_NAME
 }
 
 /// The name as it is, where it is one.
 fn checked_name(name: Text) -> Result<Text, ReadDocEnd>
     ensures { Gives (λ name. name) result (spec.checked_name name) }
 {
-    if is_name_length(name.len()) {
+    if has_name_length(&name) {
         Ok(name)
     } else {
         Err(NOT_BUILT)

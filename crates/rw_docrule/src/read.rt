@@ -1,59 +1,116 @@
 //! Documents from their bytes.
 
-ghost use Rattle.std.specs.Prelude.{◌≡◌, IfOk};
+ghost use Rattle.std.specs.Prelude.{◌≡◌, IfOk, option_map};
+ghost use Rattle.serde_json.specs.Find.{get};
 ghost use Rattle.serde_json.specs.Read.{read};
 ghost use Rattle.serde_json.specs.View.{view};
+ghost use Rattle.rw_schema.specs.declared.section.Section.TheVariants.{Whole};
+ghost use Rattle.rw_schema.specs.Presentation.{signature_of};
+ghost use Rattle.rw_table.specs.Tabled.{IsOver};
 ghost use Rattle.rw_doc.specs.Chain.{some_or};
-ghost use Rattle.rw_doc.specs.Documents as spec;
+ghost use Rattle.rw_doc.specs.Faults.{fault_of};
 ghost use Rattle.rw_doc.specs.Gives.{Gives};
-ghost use Rattle.rw_doc.specs.Models.{IsSound, document_lists};
+ghost use Rattle.rw_doc.specs.declared.end.ReadDocEnd.TheVariants.{Refused};
+ghost use Rattle.rw_docrule.specs.Documents as spec;
+ghost use Rattle.rw_docrule.specs.Models.{IsSound, document_lists};
 
-use crate::instance::instance_or_none;
-use crate::json::{NOT_BUILT, needed, read_count, with_keys};
+use crate::Document;
+use crate::json::NOT_BUILT;
 use crate::rules::rules_or_none;
-use crate::schema::read_schema;
 use crate::watches::watches_or_none;
-use crate::{DocFault, Document, ReadDocEnd};
-use rw_schema::Section;
+use rw_doc::{
+    DocFault, ReadDocEnd, count_of, empty_instance, has_only, read_instance, read_schema,
+};
+use rw_schema::{Schema, Section};
+use rw_table::Table;
 use serde_json::Value;
 use std::alloc::Global;
 use std::str;
 
 /// The format that is read.
-const FORMAT: u32 = 1;
+const FORMAT: u64 = 1;
 
-/// The end of a reading whose bytes are no JSON text.
-const NOT_JSON: ReadDocEnd = ReadDocEnd::Refused(DocFault {
-    code: 1,
-    section: Section::Whole,
-    first: 0,
-    second: 0,
-    third: 0,
-});
+/// The keys of a document.
+const KEYS: [&str; 8] = [
+    "cospan", "format", "instance", "rules", "schedule", "schema", "span", "watches",
+];
 
-/// Passes where the format is 1.
-fn with_format(value: &Value) -> Result<(), ReadDocEnd>
-    ensures { Gives (λ _. view value.now) result (spec.with_format (view value.now)) }
+/// The code of bytes that are no JSON text.
+const NOT_JSON: u8 = 1;
+
+/// The code of a value that has not the form of a document.
+const NOT_FORM: u8 = 2;
+
+/// The code of a format that is not read.
+const OTHER_FORMAT: u8 = 3;
+
+/// The end of a reading with a fault of the whole document.
+fn refused(code: u8) -> ReadDocEnd
+    ensures { result ≡ Refused (fault_of code Whole) }
 {
-    let format = needed("format", value)?;
-    let number = read_count(format)?;
+    ReadDocEnd::Refused(DocFault {
+        code,
+        section: Section::Whole,
+        first: 0,
+        second: 0,
+        third: 0,
+    })
+}
+
+/// The member of the document at a key.
+fn member<'v>(key: &str, value: &'v Value) -> Result<&'v Value, ReadDocEnd>
+    ensures { Gives (λ member. view member.now) result (some_or (fault_of 2 Whole) (get key.now (view value.now))) }
+{
+    value.get(key).ok_or(refused(NOT_FORM))
+}
+
+/// The format, where it is the one that is read.
+fn read_format(value: &Value) -> Result<u64, ReadDocEnd>
+    ensures { Gives (λ number. number) result (spec.read_format (view value.now)) }
+{
+    let number = count_of(value).ok_or(refused(NOT_FORM))?;
     if number == FORMAT {
-        Ok(())
+        Ok(number)
     } else {
-        Err(NOT_BUILT)
+        Err(refused(OTHER_FORMAT))
     }
 }
 
-/// The document that a JSON value is.
-fn read_value(alloc: Global, value: &Value) -> Result<Document, ReadDocEnd>
-    ensures gives { Gives document_lists result (spec.read_value (view value.now)) }
+/// The instance that is written, or one without parts.
+fn instance_or_none(
+    alloc: Global,
+    schema: &Schema,
+    value: Option<&Value>,
+) -> Result<Table, ReadDocEnd>
+    ensures { Gives (λ table. table) result (spec.instance_or_none (signature_of schema.now) (option_map (λ value. view value.now) value.entry)) }
+{
+    match value {
+        Some(value) => read_instance(alloc, value, schema, false),
+        None => Ok(empty_instance(alloc, schema)?),
+    }
+}
+
+/// Whether one of the sections is there that are not read yet.
+fn has_more(value: &Value) -> bool
+    ensures { result ≡ spec.has_more (view value.now) }
+{
+    value.get("schedule").is_some() || value.get("span").is_some() || value.get("cospan").is_some()
+}
+
+/// The document of the schema, the instance, and the rules and watches that are written.
+fn read_others(
+    alloc: Global,
+    schema: Schema,
+    table: Table,
+    value: &Value,
+) -> Result<Document, ReadDocEnd>
+    requires { IsOver schema table }
+    ensures gives { Gives document_lists result (spec.read_others schema table (view value.now)) }
     ensures sound { IfOk result (λ document. IsSound (document_lists document)) }
 {
-    with_keys(&["format", "instance", "rules", "schema", "watches"], value)?;
-    with_format(value)?;
-    let schema = needed("schema", value)?;
-    let schema = read_schema(alloc, schema)?;
-    let table = instance_or_none(alloc, &schema, value.get("instance"))?;
+    if has_more(value) {
+        return Err(NOT_BUILT);
+    }
     let rules = rules_or_none(alloc, &schema, value.get("rules"))?;
     let watches = watches_or_none(alloc, &schema, rules.as_slice(), value.get("watches"))?;
     Ok(Document {
@@ -64,9 +121,25 @@ fn read_value(alloc: Global, value: &Value) -> Result<Document, ReadDocEnd>
     })
 }
 
+/// The document that a JSON value is.
+fn read_value(alloc: Global, value: &Value) -> Result<Document, ReadDocEnd>
+    ensures gives { Gives document_lists result (spec.read_value (view value.now)) }
+    ensures sound { IfOk result (λ document. IsSound (document_lists document)) }
+{
+    if !has_only(&KEYS, value) {
+        return Err(refused(NOT_FORM));
+    }
+    let schema = member("schema", value)?;
+    let format = member("format", value)?;
+    read_format(format)?;
+    let schema = read_schema(alloc, schema)?;
+    let table = instance_or_none(alloc, &schema, value.get("instance"))?;
+    read_others(alloc, schema, table, value)
+}
+
 /// The JSON value that a text is.
 fn parse(alloc: Global, text: &str) -> Result<Value, ReadDocEnd>
-    ensures { Gives view result (some_or spec.not_json (read text.now)) }
+    ensures { Gives view result (some_or (fault_of 1 Whole) (read text.now)) }
 {
     match Value::from_str(alloc, text) {
         Ok(value) => Ok(value),
@@ -74,7 +147,7 @@ fn parse(alloc: Global, text: &str) -> Result<Value, ReadDocEnd>
             if error.is_memory() {
                 Err(ReadDocEnd::OutOfMemory)
             } else {
-                Err(NOT_JSON)
+                Err(refused(NOT_JSON))
             }
         }
     }
@@ -86,16 +159,18 @@ fn read_json(alloc: Global, bytes: &[u8]) -> Result<Value, ReadDocEnd>
 {
     match str::from_utf8(bytes) {
         Ok(text) => parse(alloc, text),
-        Err(_) => Err(NOT_JSON),
+        Err(_) => Err(refused(NOT_JSON)),
     }
 }
 
 /// The document that the bytes are, or its first fault: the sections are read in the order schema, instance,
 /// rules, watches.
 ///
-/// Bytes that are no JSON text are refused with code 1, and a value that is no document of the form that is
-/// read so far with code 16; want of memory may end a reading at any bytes. The time and the memory are linear
-/// in the bytes and the counts of parts, the time up to a logarithm.
+/// Bytes that are no JSON text are refused with code 1, a value whose own keys are not those of a document with code 2,
+/// and another format with code 3. Then come the faults of the schema and of the instance, as `read_schema` and
+/// `read_instance` answer them. Whatever is wrong with what follows, or not read yet, is code 16. Want of memory may end
+/// a reading at any bytes. The time and the memory are linear in the bytes and the counts of parts, the time up to a
+/// logarithm.
 pub fn read_document(alloc: Global, bytes: &[u8]) -> Result<Document, ReadDocEnd>
     ensures gives { Gives document_lists result (spec.read_document bytes.now) }
     ensures sound { IfOk result (λ document. IsSound (document_lists document)) }

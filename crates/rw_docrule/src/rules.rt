@@ -8,14 +8,14 @@ ghost use Rattle.rw_schema.specs.Presentation.{signature_of};
 ghost use Rattle.rw_rule.specs.RuleFaults.{AreOver, IsRuleOver};
 ghost use Rattle.rw_rule.specs.RuleParts.{goal_of_parts, rule_of_parts};
 ghost use Rattle.rw_doc.specs.Chain.{each_in};
-ghost use Rattle.rw_doc.specs.Documents as spec;
 ghost use Rattle.rw_doc.specs.Gives.{Gives};
+ghost use Rattle.rw_docrule.specs.Rules as spec;
 
-use crate::ReadDocEnd;
 use crate::json::{NOT_BUILT, needed, read_at_most, read_str, with_keys};
 use crate::monic::read_monic;
 use crate::names::read_name;
-use crate::patterns::{map_at, pattern_at};
+use crate::patterns::{map_at, plain_pattern_at};
+use rw_doc::ReadDocEnd;
 use rw_rule::{Goal, Rule, RuleKind, RuleParts, is_plain};
 use rw_schema::Schema;
 use serde_json::Value;
@@ -40,19 +40,20 @@ fn read_kind(value: &Value) -> Result<RuleKind, ReadDocEnd>
     }
 }
 
-/// The left side and the monic objects.
+/// The left side and the monic objects. There are no variables so far.
 fn read_goal(alloc: Global, schema: &Schema, value: &Value) -> Result<Goal, ReadDocEnd>
     ensures { Gives goal_of_parts result (spec.read_goal schema.now (view value.now)) }
 {
-    let left = pattern_at(alloc, schema, "left", value)?;
+    let left = plain_pattern_at(alloc, schema, "left", value)?;
     let monic = read_monic(alloc, schema, value)?;
-    Ok(Goal { left, monic })
+    let kinds = Vec::new(alloc);
+    Ok(Goal { left, monic, kinds })
 }
 
 /// The rule as it is, where it is plain.
 fn plain_rule(schema: &Schema, rule: Rule) -> Result<Rule, ReadDocEnd>
     requires { IsRuleOver (signature_of schema.now) rule }
-    ensures { Gives (λ rule. rule) result (spec.plain_rule rule) }
+    ensures { Gives (λ rule. rule) result (spec.plain_rule (signature_of schema.now) rule) }
 {
     if is_plain(schema, &rule) {
         Ok(rule)
@@ -79,8 +80,8 @@ fn read_rule(alloc: Global, schema: &Schema, value: &Value) -> Result<Rule, Read
     let name = read_name(alloc, value)?;
     let kind = read_kind(value)?;
     let goal = read_goal(alloc, schema, value)?;
-    let keep = pattern_at(alloc, schema, "keep", value)?;
-    let right = pattern_at(alloc, schema, "right", value)?;
+    let keep = plain_pattern_at(alloc, schema, "keep", value)?;
+    let right = plain_pattern_at(alloc, schema, "right", value)?;
     let l = map_at(alloc, schema, "l", value)?;
     let r = map_at(alloc, schema, "r", value)?;
     let parts = RuleParts {

@@ -4,18 +4,17 @@ ghost use Rattle.std.specs.Prelude.{◌≡◌, ◌≤◌, length, map, option_ma
 ghost use Rattle.std.specs.List.{list_any};
 ghost use Rattle.std.specs.Str.{bytes_eq};
 ghost use Rattle.serde_json.specs.View.{view};
-ghost use Rattle.rw_schema.specs.Presentation.{signature_of};
 ghost use Rattle.rw_rule.specs.RuleParts.{lists_of_watch};
 ghost use Rattle.rw_doc.specs.Chain.{each_in};
-ghost use Rattle.rw_doc.specs.Documents as spec;
 ghost use Rattle.rw_doc.specs.Gives.{Gives};
+ghost use Rattle.rw_docrule.specs.Watches as spec;
 
-use crate::ReadDocEnd;
-use crate::json::{NOT_BUILT, read_at_most, with_keys};
-use crate::monic::marks_of;
+use crate::json::{NOT_BUILT, needed, read_at_most, with_keys};
+use crate::monic::read_monic;
 use crate::names::read_name;
-use crate::patterns::pattern_at;
+use crate::patterns::read_pattern;
 use crate::rules::has_rule;
+use rw_doc::ReadDocEnd;
 use rw_rule::{Goal, Rule, Watch};
 use rw_schema::Schema;
 use serde_json::Value;
@@ -27,13 +26,14 @@ const MOST_WATCHES: usize = 64;
 fn read_watch(alloc: Global, schema: &Schema, value: &Value) -> Result<Watch, ReadDocEnd>
     ensures { Gives lists_of_watch result (spec.read_watch schema.now (view value.now)) }
 {
-    with_keys(&["name", "pattern"], value)?;
+    with_keys(&["monic", "name", "pattern"], value)?;
     let name = read_name(alloc, value)?;
-    let left = pattern_at(alloc, schema, "pattern", value)?;
-    let monic = marks_of(alloc, schema.objects(), &[])?;
+    let pattern = needed("pattern", value)?;
+    let (left, kinds) = read_pattern(alloc, schema, pattern)?;
+    let monic = read_monic(alloc, schema, value)?;
     Ok(Watch {
         name,
-        goal: Goal { left, monic },
+        goal: Goal { left, monic, kinds },
     })
 }
 

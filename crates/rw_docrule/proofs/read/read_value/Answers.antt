@@ -1,30 +1,10 @@
--- The instance, the rules and the watches are read over the schema.
-use Rattle.std.proofs.Common.{◌≡◌, true, map, option_map}
-use Rattle.std.specs.List.{All}
-use Rattle.std.proofs.lemmas.List.Elements.{All-weaker}
+-- The instance is read over the schema.
+use Rattle.std.proofs.Common.{option_map}
 use Rattle.serde_json.specs.View.{view}
 use Rattle.rw_schema.specs.Presentation.{signature_of}
-use Rattle.rw_rule.specs.PlainRules.{is_plain}
-use Rattle.rw_rule.specs.RuleFaults.{IsRuleOver}
-use Rattle.rw_rule.specs.RuleLists.{RuleLists}
-use Rattle.rw_rule.specs.RuleParts.{lists_of_watch}
-use Rattle.rw_doc.proofs.Few.{few_rules_read, few_watches_read}
-use Rattle.rw_doc.proofs.SoundRules.{IsBuilt, any_rules_read}
-use Rattle.rw_doc.proofs.SoundTable.{any_instance_over}
-use Rattle.rw_doc.proofs.SoundWatches.{any_watches_over}
-use Rattle.rw_doc.proofs.read.read_value.Goals as goal
+use Rattle.rw_docrule.proofs.SoundTable.{any_instance_over}
+use Rattle.rw_docrule.proofs.read.read_value.Goals as goal
 
-pub returns-clause-sound : goal.returns-clause-sound
-returns-clause-sound c =
-    let schema = c.in_ok-schema-2.schema in
-    let C = signature_of schema in
-    let rules = c.in_ok-rules.rules.items in
-    let built : All (IsBuilt C) rules = any_rules_read schema (option_map (λ value. view value.now) c.get-2.result) rules c.in_ok-rules.ensures in
-    record {
-      table = any_instance_over C (option_map (λ value. view value.now) c.get.result) c.in_ok-table.table c.in_ok-table.ensures;
-      rules = All-weaker (IsBuilt C) (IsRuleOver C) (λ rule is. is.over) rules built;
-      plain = All-weaker (IsBuilt C) (λ (rule : RuleLists). is_plain rule ≡ true) (λ rule is. is.plain) rules built;
-      watches = any_watches_over schema c.as_slice.result.now (option_map (λ value. view value.now) c.get-3.result) (map lists_of_watch c.in_ok-watches.watches.items) c.in_ok-watches.ensures;
-      few_rules = few_rules_read schema (option_map (λ value. view value.now) c.get-2.result) rules c.in_ok-rules.ensures;
-      few_watches = few_watches_read schema c.as_slice.result.now (option_map (λ value. view value.now) c.get-3.result) (map lists_of_watch c.in_ok-watches.watches.items) c.in_ok-watches.ensures;
-    }
+pub read_others-requires : goal.read_others-requires
+read_others-requires c =
+    any_instance_over (signature_of c.in_ok-schema-2.schema) (option_map (λ value. view value.now) c.get.result) c.in_ok-table.table c.in_ok-table.ensures

@@ -1,7 +1,7 @@
 -- The rule is put behind those before it.
-use Rattle.rw_doc.specs.Documents as spec
+use Rattle.rw_docrule.specs.Rules as spec
 use Rattle.rw_doc.proofs.Readings.{read_more}
-use Rattle.rw_doc.proofs.rules.rules_of.Goals as goal
+use Rattle.rw_docrule.proofs.rules.rules_of.Goals as goal
 
 pub loop-item-preserved : goal.loop-item-preserved
 loop-item-preserved c =

@@ -2,8 +2,8 @@
 use Rattle.std.proofs.Common.{◌≡◌, drop, map}
 use Rattle.rw_schema.specs.First.{all_in}
 use Rattle.rw_rule.specs.RuleParts.{lists_of_watch}
-use Rattle.rw_doc.specs.Documents as spec
-use Rattle.rw_doc.proofs.watches.are_apart.Given as goal
+use Rattle.rw_docrule.specs.Watches as spec
+use Rattle.rw_docrule.proofs.watches.are_apart.Given as goal
 
 abbrev pub invariant-loop-place : goal.invariant-loop-place
 invariant-loop-place l =

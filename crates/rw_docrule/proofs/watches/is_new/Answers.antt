@@ -3,8 +3,8 @@ use Rattle.std.proofs.Common.{◌≡◌, ◌∙◌, false, sym}
 use Rattle.std.specs.List.{list_any}
 use Rattle.std.specs.Str.{bytes_eq}
 use Rattle.rw_rule.specs.RuleLists.{RuleLists}
-use Rattle.rw_doc.proofs.Readings.{named_before}
-use Rattle.rw_doc.proofs.watches.is_new.Goals as goal
+use Rattle.rw_docrule.proofs.NamesBefore.{named_before}
+use Rattle.rw_docrule.proofs.watches.is_new.Goals as goal
 
 pub returns-then-not-has_rule : goal.returns-then-not-has_rule
 returns-then-not-has_rule c =

@@ -2,9 +2,9 @@
 use Rattle.std.proofs.Common.{[], ◌∷◌, map}
 use Rattle.std.proofs.lemmas.List.{map-append}
 use Rattle.rw_rule.specs.RuleParts.{lists_of_watch}
-use Rattle.rw_doc.specs.Documents as spec
+use Rattle.rw_docrule.specs.Watches as spec
 use Rattle.rw_doc.proofs.Readings.{read_more}
-use Rattle.rw_doc.proofs.watches.watches_of.Goals as goal
+use Rattle.rw_docrule.proofs.watches.watches_of.Goals as goal
 
 pub loop-item-preserved : goal.loop-item-preserved
 loop-item-preserved c =
