@@ -3,8 +3,11 @@
 
 mod end;
 mod fault;
+mod faults;
 mod instance;
 mod json;
+mod lists;
+mod objects;
 mod schema;
 
 pub use end::ReadDocEnd;
