@@ -4,3 +4,4 @@ pub mod Gives
 pub mod Instances
 pub mod Json
 pub mod Schemas
+pub mod Texts

@@ -1,6 +1,7 @@
 //! Schemas and instances that are read from JSON.
 #![tactic(auto)]
 
+mod arrows;
 mod end;
 mod fault;
 mod faults;
