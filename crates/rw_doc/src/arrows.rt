@@ -20,10 +20,10 @@ use std::alloc::Global;
 
 /// The texts that an arrow is written in.
 #[derive(Clone, Copy)]
-pub(crate) struct ArrowTexts<'v> {
-    pub(crate) name: &'v str,
-    pub(crate) source: &'v str,
-    pub(crate) target: &'v str,
+struct ArrowTexts<'v> {
+    name: &'v str,
+    source: &'v str,
+    target: &'v str,
 }
 
 /// The name, the source and the target that the items are.

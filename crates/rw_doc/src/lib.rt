@@ -2,6 +2,7 @@
 #![tactic(auto)]
 
 mod arrows;
+mod attributes;
 mod end;
 mod fault;
 mod faults;
