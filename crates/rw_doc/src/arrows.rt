@@ -10,7 +10,7 @@ ghost use Rattle.rw_doc.specs.Json.{as_list};
 ghost use Rattle.rw_doc.specs.Schemas as spec;
 ghost use Rattle.rw_doc.specs.Texts.{texts_of_arrow};
 
-use crate::faults::fault_at;
+use crate::faults::{fault_at, refused_at};
 use crate::lists::{items_of, read_list};
 use crate::objects::{has_name_length, object_named};
 use crate::{DocFault, ReadDocEnd};
@@ -92,13 +92,13 @@ fn read_arrow(
 {
     let place = before.len() as u32;
     let Some(texts) = arrow_texts(value) else {
-        return Err(ReadDocEnd::Refused(fault_at(2, Section::Arrows, place, 0)));
+        return Err(refused_at(2, Section::Arrows, place, 0));
     };
     if !has_name_length(texts.name) {
-        return Err(ReadDocEnd::Refused(fault_at(4, Section::Arrows, place, 0)));
+        return Err(refused_at(4, Section::Arrows, place, 0));
     }
     if is_arrow(before, texts.name) {
-        return Err(ReadDocEnd::Refused(fault_at(5, Section::Arrows, place, 0)));
+        return Err(refused_at(5, Section::Arrows, place, 0));
     }
     let unknown = fault_at(6, Section::Arrows, place, 0);
     let source = object_named(unknown, objects, texts.source)?;

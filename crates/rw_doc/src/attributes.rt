@@ -12,7 +12,7 @@ ghost use Rattle.rw_doc.specs.Schemas as spec;
 ghost use Rattle.rw_doc.specs.Texts.{texts_of_attribute};
 
 use crate::ReadDocEnd;
-use crate::faults::fault_at;
+use crate::faults::{fault_at, refused_at};
 use crate::lists::{items_of, read_list_or_none};
 use crate::objects::{has_name_length, object_named};
 use rw_schema::{AttrDef, Kind, MOST_ATTRIBUTES, Section, Text};
@@ -88,28 +88,13 @@ fn read_attribute(
 {
     let place = before.len() as u32;
     let Some(texts) = attribute_texts(value) else {
-        return Err(ReadDocEnd::Refused(fault_at(
-            2,
-            Section::Attributes,
-            place,
-            0,
-        )));
+        return Err(refused_at(2, Section::Attributes, place, 0));
     };
     if !has_name_length(texts.name) {
-        return Err(ReadDocEnd::Refused(fault_at(
-            4,
-            Section::Attributes,
-            place,
-            0,
-        )));
+        return Err(refused_at(4, Section::Attributes, place, 0));
     }
     if is_attribute(before, texts.name) {
-        return Err(ReadDocEnd::Refused(fault_at(
-            5,
-            Section::Attributes,
-            place,
-            0,
-        )));
+        return Err(refused_at(5, Section::Attributes, place, 0));
     }
     let unknown = fault_at(6, Section::Attributes, place, 0);
     let object = object_named(unknown, objects, texts.object)?;

@@ -4,12 +4,14 @@
 mod arrows;
 mod attributes;
 mod end;
+mod equations;
 mod fault;
 mod faults;
 mod instance;
 mod json;
 mod lists;
 mod objects;
+mod paths;
 mod schema;
 
 pub use end::ReadDocEnd;

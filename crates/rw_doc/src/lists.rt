@@ -7,7 +7,7 @@ ghost use Rattle.rw_doc.specs.Instances as instances;
 ghost use Rattle.rw_doc.specs.Json.{as_list};
 ghost use Rattle.rw_doc.specs.Schemas as schemas;
 
-use crate::faults::fault_of;
+use crate::faults::refused_of;
 use crate::{DocFault, ReadDocEnd};
 use rw_schema::Section;
 use serde_json::Value;
@@ -28,12 +28,12 @@ pub(crate) fn read_list(section: Section, most: usize, value: &Value) -> Result<
     ensures few { IfOk result (λ items. length items.now ≤ most) }
 {
     let Some(items) = items_of(value) else {
-        return Err(ReadDocEnd::Refused(fault_of(2, section)));
+        return Err(refused_of(2, section));
     };
     if items.len() <= most {
         Ok(items)
     } else {
-        Err(ReadDocEnd::Refused(fault_of(4, section)))
+        Err(refused_of(4, section))
     }
 }
 

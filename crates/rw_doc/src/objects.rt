@@ -9,7 +9,7 @@ ghost use Rattle.rw_doc.specs.Chain.{each_after};
 ghost use Rattle.rw_doc.specs.Gives.{Gives};
 ghost use Rattle.rw_doc.specs.Schemas as spec;
 
-use crate::faults::fault_at;
+use crate::faults::refused_at;
 use crate::lists::read_list;
 use crate::{DocFault, ReadDocEnd};
 use rw_schema::{LONGEST_NAME, MOST_OBJECTS, ObjectId, Section, Text};
@@ -59,13 +59,13 @@ fn read_object(alloc: Global, before: &[Text], value: &Value) -> Result<Text, Re
 {
     let place = before.len() as u32;
     let Some(name) = value.as_str() else {
-        return Err(ReadDocEnd::Refused(fault_at(2, Section::Objects, place, 0)));
+        return Err(refused_at(2, Section::Objects, place, 0));
     };
     if !has_name_length(name) {
-        return Err(ReadDocEnd::Refused(fault_at(4, Section::Objects, place, 0)));
+        return Err(refused_at(4, Section::Objects, place, 0));
     }
     if is_object(before, name) {
-        return Err(ReadDocEnd::Refused(fault_at(5, Section::Objects, place, 0)));
+        return Err(refused_at(5, Section::Objects, place, 0));
     }
     Ok(Text::of(alloc, name)?)
 }
