@@ -3,7 +3,7 @@
 ghost use Rattle.std.specs.Prelude.{◌≡◌, ◌<◌, ◌≤◌, ◌&&◌, true, IfOk, length, map, nat_le, option_map, option_and_then};
 ghost use Rattle.std.specs.List.{list_all};
 ghost use Rattle.serde_json.specs.View.{view};
-ghost use Rattle.rw_schema.specs.SchemaFaults as faults;
+ghost use Rattle.rw_schema.specs.SchemaFaults.{has_arrows};
 ghost use Rattle.rw_doc.specs.Chain.{each_in};
 ghost use Rattle.rw_doc.specs.Gives.{Gives};
 ghost use Rattle.rw_doc.specs.Json.{as_list, as_texts};
@@ -93,6 +93,24 @@ fn arrow_at(fault: DocFault, arrows: &[ArrowDef], value: &Value) -> Result<Arrow
 }
 
 /// The arrows with the names that the values are.
+fn arrows_at(
+    alloc: Global,
+    fault: DocFault,
+    arrows: &[ArrowDef],
+    names: &[Value],
+) -> Result<Vec<ArrowId>, ReadDocEnd>
+    requires { length arrows.now ≤ 256 }
+    ensures { Gives (λ found. found.items) result (each_in (λ place name. spec.arrow_named fault arrows.now (text_of name)) 0 (map view names.now)) }
+{
+    let mut found = Vec::new(alloc);
+    for name in names {
+        let arrow = arrow_at(fault, arrows, name)?;
+        found.push(arrow)?;
+    }
+    Ok(found)
+}
+
+/// The path of the arrows with the names that the values are.
 fn path_of(
     alloc: Global,
     fault: DocFault,
@@ -100,12 +118,77 @@ fn path_of(
     names: &[Value],
 ) -> Result<Path, ReadDocEnd>
     requires { length arrows.now ≤ 256 }
-    ensures { Gives (λ path. path) result (each_in (λ place name. spec.arrow_named fault arrows.now (text_of name)) 0 (map view names.now)) }
+    ensures gives { Gives (λ path. path) result (spec.path_named fault arrows.now (map text_of (map view names.now))) }
+    ensures known { IfOk result (λ path. has_arrows (length arrows.now) path ≡ true) }
 {
-    let mut path = Vec::new(alloc);
-    for name in names {
-        let arrow = arrow_at(fault, arrows, name)?;
-        path.push(arrow)?;
+    let found = arrows_at(alloc, fault, arrows, names)?;
+    Ok(Path::of(found))
+}
+
+/// The equation that the value is, at this place of the list.
+fn read_equation(
+    alloc: Global,
+    objects: &[Text],
+    arrows: &[ArrowDef],
+    place: u32,
+    value: &Value,
+) -> Result<Equation, ReadDocEnd>
+    requires objects { length objects.now ≤ 64 }
+    requires arrows { length arrows.now ≤ 256 }
+    ensures { Gives (λ equation. equation) result (spec.read_equation objects.now arrows.now place (view value.now)) }
+{
+    let Some(texts) = equation_texts(value) else {
+        return Err(refused_at(2, Section::Equations, place, 0));
+    };
+    if !has_short_paths(&texts) {
+        return Err(refused_at(4, Section::Equations, place, 0));
     }
-    Ok(Path::of(path))
+    let unknown = fault_at(6, Section::Equations, place, 0);
+    let object = object_named(unknown, objects, texts.object)?;
+    let left = path_of(alloc, unknown, arrows, texts.left)?;
+    let right = path_of(alloc, unknown, arrows, texts.right)?;
+    let equation = Equation {
+        object,
+        left,
+        right,
+    };
+    if !do_sides_meet(arrows, &equation) {
+        return Err(refused_at(7, Section::Equations, place, 0));
+    }
+    Ok(equation)
+}
+
+/// The equations that the values are.
+fn equations_of(
+    alloc: Global,
+    objects: &[Text],
+    arrows: &[ArrowDef],
+    items: &[Value],
+) -> Result<Vec<Equation>, ReadDocEnd>
+    requires objects { length objects.now ≤ 64 }
+    requires arrows { length arrows.now ≤ 256 }
+    requires items { length items.now ≤ 256 }
+    ensures { Gives (λ equations. equations.items) result (each_in (spec.read_equation objects.now arrows.now) 0 (map view items.now)) }
+{
+    let mut equations = Vec::new(alloc);
+    for (place, item) in items.iter().enumerate() {
+        let equation = read_equation(alloc, objects, arrows, place as u32, item)?;
+        equations.push(equation)?;
+    }
+    Ok(equations)
+}
+
+/// The equations of a schema, which has none where they are not written.
+pub(crate) fn read_equations(
+    alloc: Global,
+    objects: &[Text],
+    arrows: &[ArrowDef],
+    value: Option<&Value>,
+) -> Result<Vec<Equation>, ReadDocEnd>
+    requires objects { length objects.now ≤ 64 }
+    requires arrows { length arrows.now ≤ 256 }
+    ensures { Gives (λ equations. equations.items) result (spec.read_equations objects.now arrows.now (option_map (λ value. view value.now) value.entry)) }
+{
+    let items = read_list_or_none(Section::Equations, MOST_EQUATIONS, value)?;
+    equations_of(alloc, objects, arrows, items)
 }

@@ -2,7 +2,7 @@
 use Rattle.rw_doc.specs.Schemas as spec
 use Rattle.rw_doc.specs.Texts.{text_of}
 use Rattle.rw_doc.proofs.Readings.{ReadSo}
-use Rattle.rw_doc.proofs.equations.path_of.Given as goal
+use Rattle.rw_doc.proofs.equations.arrows_at.Given as goal
 
 abbrev pub invariant-loop-name : goal.invariant-loop-name
-invariant-loop-name l = ReadSo (λ name. spec.arrow_named l.fault l.arrows (text_of name)) l.names l.name-index l.path.items
+invariant-loop-name l = ReadSo (λ name. spec.arrow_named l.fault l.arrows (text_of name)) l.names l.name-index l.found.items
