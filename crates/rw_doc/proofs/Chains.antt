@@ -1,6 +1,7 @@
 -- What holds of a value that a chain of readings gives.
 use Rattle.std.proofs.Common.{◌≡◌, ℕ, zero, suc, ◌+◌, Bool, true, false, ◌&&◌, Option, Some, None, Result, Ok, Err, List, [], ◌∷◌, ◌++◌, length, map, slice_get, refl, ap, subst, add-zero, arith}
 use Rattle.std.specs.List.{All, list_all}
+use Rattle.std.proofs.lemmas.List.{length-append}
 use Rattle.std.proofs.lemmas.List.Elements.{All-nil, All-cons}
 use Rattle.rw_doc.specs.Chain.{and_then, each_in, each_after, some_or, checked}
 
@@ -64,3 +65,12 @@ pub each_mapped : {W X A E : Type 0} (f : ℕ → X → Result A E) (h : W → X
     → each_in f i (map h ws) ≡ each_in (λ place w. f place (h w)) i ws
 each_mapped f h i [] = refl
 each_mapped f h i (w ∷ ws) = ap (λ reading. and_then (f i (h w)) (λ y. and_then reading (λ ys. Ok (y ∷ ys)))) (each_mapped f h (i + 1) ws)
+
+-- as much is read behind others as there are items
+pub behind_long : {X A E : Type 0} (f : List A → X → Result A E) (before : List A) (xs : List X) (ys : List A)
+    → each_after f before xs ≡ Ok ys → length ys ≡ length before + length xs
+behind_long f before [] ys is = let same : before ≡ ys = cc in subst (λ list. length list ≡ length before + 0) same (omega arith)
+behind_long f before (x ∷ xs) ys is =
+    chain (λ list. length list ≡ length before + suc (length xs)) (f before x) (λ y. each_after f (before ++ y ∷ []) xs)
+    (λ y here list later. let long : length list ≡ length (before ++ y ∷ []) + length xs = behind_long f (before ++ y ∷ []) xs list later in
+    omega (arith, length-append before (y ∷ []))) ys is

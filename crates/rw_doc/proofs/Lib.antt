@@ -1,4 +1,6 @@
 pub mod Chains
+pub mod Faultless
 pub mod Named
 pub mod Readings
+pub mod SoundSchemas
 pub mod TextLists

@@ -112,11 +112,7 @@ fn read_arrow(
 }
 
 /// The arrows that the values are.
-fn arrows_of(
-    alloc: Global,
-    objects: &[Text],
-    items: &[Value],
-) -> Result<Vec<ArrowDef>, ReadDocEnd>
+fn arrows_of(alloc: Global, objects: &[Text], items: &[Value]) -> Result<Vec<ArrowDef>, ReadDocEnd>
     requires objects { length objects.now ≤ 64 }
     requires items { length items.now ≤ 256 }
     ensures gives { Gives (λ arrows. arrows.items) result (each_after (spec.read_arrow objects.now) [] (map view items.now)) }

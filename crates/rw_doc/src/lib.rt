@@ -16,6 +16,6 @@ mod schema;
 
 pub use end::ReadDocEnd;
 pub use fault::DocFault;
-pub use json::{atom_of, count_of, has_only};
 pub use instance::{empty_instance, read_instance};
+pub use json::{atom_of, count_of, has_only};
 pub use schema::read_schema;

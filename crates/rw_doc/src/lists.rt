@@ -23,7 +23,11 @@ pub(crate) fn items_of(value: &Value) -> Option<&[Value]>
 }
 
 /// A section's list of at most so many items.
-pub(crate) fn read_list(section: Section, most: usize, value: &Value) -> Result<&[Value], ReadDocEnd>
+pub(crate) fn read_list(
+    section: Section,
+    most: usize,
+    value: &Value,
+) -> Result<&[Value], ReadDocEnd>
     ensures gives { Gives (λ items. map view items.now) result (schemas.read_list section most (view value.now)) }
     ensures few { IfOk result (λ items. length items.now ≤ most) }
 {
