@@ -11,6 +11,7 @@ mod instance;
 mod json;
 mod lists;
 mod objects;
+mod parts;
 mod paths;
 mod schema;
 
