@@ -13,6 +13,7 @@ mod lists;
 mod objects;
 mod parts;
 mod paths;
+mod rows;
 mod schema;
 
 pub use end::ReadDocEnd;
