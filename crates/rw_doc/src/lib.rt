@@ -3,6 +3,7 @@
 
 mod arrows;
 mod attributes;
+mod cells;
 mod end;
 mod equations;
 mod fault;
