@@ -74,3 +74,20 @@ behind_long f before (x ∷ xs) ys is =
     chain (λ list. length list ≡ length before + suc (length xs)) (f before x) (λ y. each_after f (before ++ y ∷ []) xs)
     (λ y here list later. let long : length list ≡ length (before ++ y ∷ []) + length xs = behind_long f (before ++ y ∷ []) xs list later in
     omega (arith, length-append before (y ∷ []))) ys is
+
+-- what holds at the first place and at each later one holds at each
+at_front : {A : Type 0} (P : ℕ → A → Type 0) (i : ℕ) (y : A) (rest : List A) → P i y
+    → ((k : ℕ) (z : A) → slice_get rest k ≡ Some z → P ((i + 1) + k) z) → (k : ℕ) (z : A) → slice_get (y ∷ rest) k ≡ Some z → P (i + k) z
+at_front P i y rest here later zero z found = let same : y ≡ z = cc in rw (add-zero, ← same) here
+at_front P i y rest here later (suc k) z found = let same : (i + 1) + k ≡ i + suc k = omega arith in rw (← same) (later k z found)
+
+-- what holds of each reading at its place holds at each place of all that is read
+pub each_at : {X A E : Type 0} (P : ℕ → A → Type 0) (f : ℕ → X → Result A E) → ((i : ℕ) (x : X) (y : A) → f i x ≡ Ok y → P i y)
+    → (i : ℕ) (xs : List X) (ys : List A) → each_in f i xs ≡ Ok ys → (k : ℕ) (y : A) → slice_get ys k ≡ Some y → P (i + k) y
+each_at P f holds i [] ys is k y found = let same : [] ≡ ys = cc in let nothing : None ≡ Some y = rw (← same) at found in let never : ⊥ = cc in absurd never
+each_at P f holds i (x ∷ xs) ys is =
+    chain (λ list. (k : ℕ) (y : _) → slice_get list k ≡ Some y → P (i + k) y) (f i x) (λ y. and_then (each_in f (i + 1) xs) (λ rest. Ok (y ∷ rest)))
+    (λ y here. chain (λ list. (k : ℕ) (y : _) → slice_get list k ≡ Some y → P (i + k) y) (each_in f (i + 1) xs) (λ rest. Ok (y ∷ rest))
+    (λ rest later list whole. let same : y ∷ rest ≡ list = cc in
+    subst (λ list. (k : ℕ) (y : _) → slice_get list k ≡ Some y → P (i + k) y) same
+    (at_front P i y rest (holds i x y here) (each_at P f holds (i + 1) xs rest later)))) ys is

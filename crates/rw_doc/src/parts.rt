@@ -1,7 +1,7 @@
 //! The numbers of an instance's parts, and their names.
 
-ghost use Rattle.std.specs.Prelude.{◌≡◌, ◌≤◌, IfOk, length, map};
-ghost use Rattle.std.specs.List.{range_with_len};
+ghost use Rattle.std.specs.Prelude.{◌≡◌, ◌≤◌, IfOk, length, map, replicate};
+ghost use Rattle.std.specs.List.{All, range_with_len};
 ghost use Rattle.serde_json.specs.View.{view};
 ghost use Rattle.rw_schema.specs.Presentation.{signature_of};
 ghost use Rattle.rw_doc.specs.Chain.{each_in};
@@ -52,11 +52,20 @@ pub(crate) fn read_parts(
     schema: &Schema,
     value: &Value,
 ) -> Result<Vec<u32>, ReadDocEnd>
-    ensures { Gives (λ parts. parts.items) result (spec.read_parts (signature_of schema.now) (view value.now)) }
+    ensures gives { Gives (λ parts. parts.items) result (spec.read_parts (signature_of schema.now) (view value.now)) }
+    ensures long { IfOk result (λ parts. length parts.items ≡ length schema.now.objects) }
+    ensures few { IfOk result (λ parts. All (λ count. count ≤ 1000000) parts.items) }
 {
     let fault = fault_of(2, Section::Parts);
     let items = with_length(fault, schema.objects(), items_of(value))?;
     part_counts(alloc, items)
+}
+
+/// So many times no part.
+pub(crate) fn zeros(alloc: Global, count: usize) -> Result<Vec<u32>, OutOfMemory>
+    ensures { IfOk result (λ counts. counts.items ≡ replicate count 0) }
+{
+    Ok(Vec::from_elem(alloc, 0, count)?)
 }
 
 /// The names of so many parts.

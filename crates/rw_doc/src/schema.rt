@@ -49,7 +49,7 @@ fn read_sections(
     attributes: Option<&Value>,
     equations: Option<&Value>,
 ) -> Result<Schema, ReadDocEnd>
-    ensures { Gives (λ schema. schema) result (sections.read_sections (view objects.now) (view arrows.now)
+    ensures { Gives (λ schema. schema) result (sections.schema_of_sections (view objects.now) (view arrows.now)
         (option_map (λ value. view value.now) attributes.entry) (option_map (λ value. view value.now) equations.entry)) }
 {
     let objects = read_objects(alloc, objects)?;
