@@ -84,7 +84,7 @@ at_front P i y rest here later (suc k) z found = let same : (i + 1) + k ≡ i + 
 -- what holds of each reading at its place holds at each place of all that is read
 pub each_at : {X A E : Type 0} (P : ℕ → A → Type 0) (f : ℕ → X → Result A E) → ((i : ℕ) (x : X) (y : A) → f i x ≡ Ok y → P i y)
     → (i : ℕ) (xs : List X) (ys : List A) → each_in f i xs ≡ Ok ys → (k : ℕ) (y : A) → slice_get ys k ≡ Some y → P (i + k) y
-each_at P f holds i [] ys is k y found = let same : [] ≡ ys = cc in let nothing : None ≡ Some y = rw (← same) at found in let never : ⊥ = cc in absurd never
+each_at P f holds i [] ys is = let same : [] ≡ ys = cc in subst (λ list. (k : ℕ) (y : _) → slice_get list k ≡ Some y → P (i + k) y) same (λ k y found. let never : ⊥ = cc in absurd never)
 each_at P f holds i (x ∷ xs) ys is =
     chain (λ list. (k : ℕ) (y : _) → slice_get list k ≡ Some y → P (i + k) y) (f i x) (λ y. and_then (each_in f (i + 1) xs) (λ rest. Ok (y ∷ rest)))
     (λ y here. chain (λ list. (k : ℕ) (y : _) → slice_get list k ≡ Some y → P (i + k) y) (each_in f (i + 1) xs) (λ rest. Ok (y ∷ rest))

@@ -6,5 +6,6 @@ pub mod Named
 pub mod PartLists
 pub mod Readings
 pub mod SchemaEnds
+pub mod SoundInstances
 pub mod SoundSchemas
 pub mod TextLists
