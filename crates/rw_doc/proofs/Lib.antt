@@ -1,2 +1,11 @@
 pub mod Chains
+pub mod EmptyInstances
+pub mod Faultless
+pub mod FirstFailures
+pub mod Named
+pub mod PartLists
 pub mod Readings
+pub mod SchemaEnds
+pub mod SoundInstances
+pub mod SoundSchemas
+pub mod TextLists

@@ -9,7 +9,7 @@ use Rattle.serde_json.specs.Data.{Data}
 use Rattle.serde_json.specs.View.{view, items_of, members_view}
 use Rattle.serde_json.specs.declared.value.Value.{Value}
 use Rattle.rw_doc.specs.declared.fault.DocFault.{DocFault}
-use Rattle.rw_doc.specs.Chain.{and_then, each_in}
+use Rattle.rw_doc.specs.Chain.{and_then, each_in, each_after}
 use Rattle.rw_doc.specs.Json.{list_of, keys_of}
 use Rattle.rw_schema.proofs.Lists.{list_any_map}
 
@@ -23,11 +23,29 @@ put_behind : {A E : Type 0} (found : List A) (y : A) (reading : Result (List A) 
 put_behind found y (Ok ys) = ap Ok (sym (append_assoc found (y ∷ []) ys))
 put_behind found y (Err fault) = refl
 
+-- the same, where what is read of an item depends on its place
+abbrev pub ReadAt : {A : Type 0} → (ℕ → Data → Result A DocFault) → List Value → ℕ → List A → Type 0
+ReadAt f values i found = each_in f 0 (map view values) ≡ and_then (each_in f i (map view (drop i values))) (λ rest. Ok (found ++ rest))
+
+-- all that is read is what is read of the items from place i on, behind what was read of the others
+abbrev pub ReadBehind : {A : Type 0} → (List A → Data → Result A DocFault) → List Value → ℕ → List A → Type 0
+ReadBehind f values i found = each_after f [] (map view values) ≡ each_after f found (map view (drop i values))
+
+-- the item at this place is read by its place: the others come later
+pub read_more_at : {A : Type 0} (f : ℕ → Data → Result A DocFault) (values : List Value) (i : ℕ) (found : List A) (value : Value) (y : A)
+    → ReadAt f values i found → i < length values → value ≡ get_or values i value → f i (view value) ≡ Ok y → ReadAt f values (i + 1) (found ++ y ∷ [])
+read_more_at f values i found value y so within is read =
+    so ∙ rw (drop-cons values i value within, ← is, read, add-one) (put_behind found y (each_in f (suc i) (map view (drop (suc i) values))))
+
 -- the item at this place is read: the others come later
 pub read_more : {A : Type 0} (f : Data → Result A DocFault) (values : List Value) (i : ℕ) (found : List A) (value : Value) (y : A)
     → ReadSo f values i found → i < length values → value ≡ get_or values i value → f (view value) ≡ Ok y → ReadSo f values (i + 1) (found ++ y ∷ [])
-read_more f values i found value y so within is read =
-    so ∙ rw (drop-cons values i value within, ← is, read, add-one) (put_behind found y (each_in (λ place. f) (suc i) (map view (drop (suc i) values))))
+read_more f values i found value y = read_more_at (λ place. f) values i found value y
+
+-- the item at this place is read behind what was read before: the others come later
+pub read_more_behind : {A : Type 0} (f : List A → Data → Result A DocFault) (values : List Value) (i : ℕ) (found : List A) (value : Value) (y : A)
+    → ReadBehind f values i found → i < length values → value ≡ get_or values i value → f found (view value) ≡ Ok y → ReadBehind f values (i + 1) (found ++ y ∷ [])
+read_more_behind f values i found value y so within is read = so ∙ rw (drop-cons values i value within, ← is, read, add-one) refl
 
 -- the items of an array, as a list
 pub list_of_items : (values : List Data) → list_of (items_of values) ≡ values

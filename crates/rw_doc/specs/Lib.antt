@@ -4,3 +4,5 @@ pub mod Gives
 pub mod Instances
 pub mod Json
 pub mod Schemas
+pub mod Sections
+pub mod Texts

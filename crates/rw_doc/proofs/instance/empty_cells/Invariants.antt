@@ -1,0 +1,6 @@
+-- The lists so far.
+use Rattle.std.proofs.Common.{◌≡◌, [], map, replicate}
+use Rattle.rw_doc.proofs.instance.empty_cells.Given as goal
+
+abbrev pub invariant-loop-place : goal.invariant-loop-place
+invariant-loop-place l = map (λ list. list.items) l.lists.items ≡ replicate l._place []

@@ -1,0 +1,6 @@
+-- The source is that of the schema's arrow.
+use Rattle.rw_doc.proofs.SchemaEnds.{arrow_source}
+use Rattle.rw_doc.proofs.rows.source_parts.Goals as goal
+
+pub returns : goal.returns
+returns c = rw (arrow_source c.args.schema.now c.args.arrow.0 c.arrow.result.now c.arrow.ensures.entry)
