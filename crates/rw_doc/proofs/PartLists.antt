@@ -86,8 +86,14 @@ shape_holds C parts arrows cells lists =
     let cell_lengths : all_in (has_cells rows) 0 C.attributes ≡ true = all_at (has_cells rows) 0 C.attributes
     (λ c ends there. eq-eqb (length (list_at cells (0 + c))) (length (list_at rows.names ends.object.0))
     (rw (zero-add c, name_count parts ends.object.0) (lists.cell_lengths c ends there))) in
-    rw (eq-eqb (length rows.names) C.objects names, eq-eqb (length parts) C.objects lists.all_objects, eq-eqb (length arrows) (length C.arrows) lists.all_arrows,
-    eq-eqb (length cells) (length C.attributes) lists.all_attributes, lengths, cell_lengths) refl
+    rw (
+      eq-eqb (length rows.names) C.objects names,
+      eq-eqb (length parts) C.objects lists.all_objects,
+      eq-eqb (length arrows) (length C.arrows) lists.all_arrows,
+      eq-eqb (length cells) (length C.attributes) lists.all_attributes,
+      lengths,
+      cell_lengths,
+    ) refl
 
 -- all numbers below the next name are names
 names_below : (count : ℕ) (names : List ℕ) → range_with_len 0 count ≡ names → are_names count names ≡ true

@@ -21,7 +21,12 @@ use std::alloc::Global;
 
 /// The instance of the schema that the value is, or its first fault: the sections instance, parts, rows, cells and equation
 /// are read in this order, and the entries of each in theirs. It is said whether a cell may be blank.
-pub fn read_instance(alloc: Global, value: &Value, schema: &Schema, blanks: bool) -> Result<Table, ReadDocEnd>
+pub fn read_instance(
+    alloc: Global,
+    value: &Value,
+    schema: &Schema,
+    blanks: bool,
+) -> Result<Table, ReadDocEnd>
     ensures { Gives (λ table. table) result (spec.read_instance (signature_of schema.now) blanks (view value.now)) }
 {
     if !has_only(&["cells", "parts", "rows"], value) {
