@@ -1,8 +1,8 @@
 -- The part at a place of the parts is that place.
-use Rattle.std.proofs.Common.{◌≡◌, ◌∙◌, ℕ, ◌<◌, ◌≤◌, Option, List, length, get_or, sym, zero-add}
+use Rattle.std.proofs.Common.{◌≡◌, ◌∙◌, ℕ, ◌<◌, ◌≤◌, Option, length, get_or, sym, zero-add}
 use Rattle.std.specs.List.{range_with_len}
 use Rattle.std.proofs.lemmas.List.FromFn.{length-range_with_len, get_or-range_with_len}
-use Rattle.rw_schema.specs.First.{first_in, fault_unless}
+use Rattle.rw_schema.specs.First.{fault_unless}
 use Rattle.rw_schema.proofs.Firsts.{first_here, first_next, first_past, unless_false, unless_true}
 use Rattle.rw_spec.specs.Instance.{agrees_at}
 use Rattle.rw_pattern.specs.declared.fault.PatternFault.{PatternFault}

@@ -1,5 +1,5 @@
 -- The attribute's object is the one in the schema.
-use Rattle.std.proofs.Common.{◌≡◌, ◌∙◌, refl}
+use Rattle.std.proofs.Common.{refl}
 use Rattle.rw_pattern.proofs.Over.{holder_is}
 use Rattle.rw_pattern.proofs.range.has_part.Goals as goal
 

@@ -3,7 +3,6 @@ use Rattle.std.proofs.Common.{◌≡◌, ◌∙◌, ◌<◌, List, true, false, 
 use Rattle.rw_schema.specs.declared.parts.ArrowDef.{ArrowDef}
 use Rattle.rw_schema.specs.Presentation.{ends_of_arrow}
 use Rattle.rw_pattern.specs.PatternFaults.{is_in_range}
-use Rattle.rw_pattern.specs.PatternLists.{PatternLists}
 use Rattle.rw_pattern.proofs.Shapes.{test_fails, test_passes}
 use Rattle.rw_pattern.proofs.range.have_images.Goals as goal
 
