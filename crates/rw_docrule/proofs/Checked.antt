@@ -1,5 +1,5 @@
 -- What holds of what a test lets pass.
-use Rattle.std.proofs.Common.{◌≡◌, Bool, true, Option, Some, None, is_none, Result, Ok, refl, subst}
+use Rattle.std.proofs.Common.{◌≡◌, Bool, true, Option, Some, None, is_none, Ok, refl, subst}
 use Rattle.rw_doc.specs.Chain.{checked}
 use Rattle.rw_doc.proofs.Chains.{checked_then}
 

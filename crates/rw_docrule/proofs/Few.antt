@@ -1,5 +1,5 @@
 -- A document has few rules and few watches.
-use Rattle.std.proofs.Common.{◌≡◌, ◌≤◌, ◌+◌, ℕ, suc, length, nat_le, Option, Some, None, Result, Ok, Err, List, [], ◌∷◌, refl, ap, subst, arith}
+use Rattle.std.proofs.Common.{◌≡◌, ◌≤◌, ◌+◌, ℕ, suc, length, nat_le, Option, Some, None, Result, Ok, List, [], ◌∷◌, refl, ap, subst, arith}
 use Rattle.std.proofs.lemmas.Bool.{leb-true}
 use Rattle.serde_json.specs.Data.{Data}
 use Rattle.rw_schema.specs.Presentation.{Presentation}

@@ -1,5 +1,5 @@
 -- The variables that are met, entry by entry, and their numbers.
-use Rattle.std.proofs.Common.{◌≡◌, ◌∙◌, ◌<◌, ◌≤◌, ◌+◌, ◌||◌, ℕ, Bool, true, false, not, inl, inr, Option, Some, None, is_some, List, [], ◌∷◌, ◌++◌, All, length, map, take, get_or, if◌then◌else◌, refl, sym, ap, arith, length-append, position, unwrap_or}
+use Rattle.std.proofs.Common.{◌≡◌, ◌∙◌, ◌<◌, ◌≤◌, ◌+◌, ◌||◌, ℕ, Bool, true, false, not, inl, inr, Some, None, is_some, List, [], ◌∷◌, ◌++◌, All, length, map, take, get_or, if◌then◌else◌, refl, sym, ap, arith, length-append, position, unwrap_or}
 use Rattle.std.specs.List.{list_any}
 use Rattle.std.specs.Str.{bytes_eq}
 use Rattle.std.proofs.lemmas.Bool.{cases_Bool}
@@ -17,7 +17,7 @@ use Rattle.rw_pattern.proofs.Sequences.{flat_map_in_more}
 use Rattle.rw_docrule.specs.declared.written.Written.{Written}
 use Rattle.rw_docrule.specs.declared.written.Written.TheVariants.{Const, Var}
 use Rattle.rw_docrule.specs.declared.written.WrittenCell.{WrittenCell}
-use Rattle.rw_docrule.specs.Numbering.{new_name, number_in, want_in, cell_in}
+use Rattle.rw_docrule.specs.Numbering.{new_name, want_in, cell_in}
 use Rattle.rw_docrule.specs.Variables.{names as names_it, has_variable, is_new, first_at, firsts, numbered, numbered_cell, kind_at}
 
 abbrev pub want_of : WrittenCell → Written
@@ -84,9 +84,9 @@ known_same names (Var other) name none =
     let met : list_any (bytes_eq other) names ≡ true = found_none (list_any (bytes_eq other) names) other none in
     elim (cases_Bool (bytes_eq name other)) [
       | inl same ↦
-        let is : name ≡ other = (bytes_eq-Decides name other).0 same in
-        let found : list_any (bytes_eq name) names ≡ true = rw is met in
-        rw found refl
+          let is : name ≡ other = (bytes_eq-Decides name other).0 same in
+          let found : list_any (bytes_eq name) names ≡ true = rw is met in
+          rw found refl
       | inr differs ↦ rw differs (elim (list_any (bytes_eq name) names) as (λ b. (b || false) ≡ b) [ true ↦ refl | false ↦ refl ])
     ]
 

@@ -1,4 +1,5 @@
 mod Checked
+mod Examples
 pub mod Few
 pub mod FirstPlaces
 pub mod NamesBefore

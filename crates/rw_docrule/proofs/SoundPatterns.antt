@@ -1,5 +1,5 @@
 -- The patterns that are read are over the schema, and each object has one mark.
-use Rattle.std.proofs.Common.{◌≡◌, ℕ, Bool, None, Ok, is_none, List, [], ◌∷◌, length, map, codes, eqb, refl, subst}
+use Rattle.std.proofs.Common.{◌≡◌, ℕ, Bool, Ok, is_none, List, [], ◌∷◌, length, map, codes, eqb, refl, subst}
 use Rattle.std.specs.List.{list_any}
 use Rattle.std.proofs.lemmas.List.FromFn.{length-map-range_with_len}
 use Rattle.serde_json.specs.Data.{Data}

@@ -5,7 +5,6 @@ use Rattle.std.proofs.lemmas.List.Elements.{All-nil}
 use Rattle.serde_json.specs.Data.{Data}
 use Rattle.rw_schema.specs.Presentation.{Presentation, signature_of}
 use Rattle.rw_schema.specs.Signature.{Signature}
-use Rattle.rw_pattern.specs.PatternLists.{PatternLists}
 use Rattle.rw_rule.specs.PlainRules.{is_plain}
 use Rattle.rw_rule.specs.RuleFaults.{IsGoalOver, AreOver, IsRuleOver, rule_fault}
 use Rattle.rw_rule.specs.RuleLists.{GoalLists, RuleLists}

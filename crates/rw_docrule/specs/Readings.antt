@@ -1,6 +1,6 @@
 -- Pieces of rules and watches. Where one has not the form that is read so far, the whole document is refused with one fault,
 -- whatever is wrong.
-use Rattle.std.specs.Prelude.{ℕ, ◌^◌, Bool, nat_lt, nat_le, length, List, Option, Some, None, Result, Ok, Err, codes, option_and_then, if◌then◌else◌}
+use Rattle.std.specs.Prelude.{ℕ, ◌^◌, nat_lt, nat_le, length, List, Option, Some, None, Result, Ok, codes, option_and_then, if◌then◌else◌}
 use Rattle.serde_json.specs.Data.{Data}
 use Rattle.serde_json.specs.Find.{as_str, get}
 use Rattle.rw_schema.specs.declared.section.Section.TheVariants.{Whole}

@@ -1,6 +1,6 @@
 -- The rules of a document, of the form that is read so far: double-pushout rules without cells and conditions, over a schema
 -- without attributes, whose maps and matches are injective.
-use Rattle.std.specs.Prelude.{ℕ, Bool, not, is_none, length, take, codes, List, [], ◌∷◌, Option, Some, None, Result, Ok, Err}
+use Rattle.std.specs.Prelude.{ℕ, Bool, not, is_none, take, codes, List, [], ◌∷◌, Option, Some, None, Result, Ok}
 use Rattle.std.specs.List.{list_any}
 use Rattle.std.specs.Str.{bytes_eq}
 use Rattle.serde_json.specs.Data.{Data}

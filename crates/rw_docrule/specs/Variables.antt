@@ -1,5 +1,5 @@
 -- What is written on the cells of a pattern. Variables have names, and are numbered by their first place.
-use Rattle.std.specs.Prelude.{ℕ, Bool, true, false, not, ◌&&◌, List, [], ◌∷◌, map, take, Option, Some, None, option_map, position, slice_get, unwrap_or, if◌then◌else◌}
+use Rattle.std.specs.Prelude.{ℕ, Bool, false, not, List, [], ◌∷◌, map, take, option_map, position, slice_get, unwrap_or, if◌then◌else◌}
 use Rattle.std.specs.List.{list_any}
 use Rattle.std.specs.Str.{bytes_eq}
 use Rattle.rw_schema.specs.declared.atom.Kind.{Kind}

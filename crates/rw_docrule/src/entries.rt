@@ -94,11 +94,7 @@ fn read_attribute(schema: &Schema, value: &Value) -> Result<AttrId, ReadDocEnd>
 }
 
 /// The entry of the attribute, the part and the term that the items are.
-fn entry_from(
-    alloc: Global,
-    schema: &Schema,
-    items: &[Value],
-) -> Result<WrittenCell, ReadDocEnd>
+fn entry_from(alloc: Global, schema: &Schema, items: &[Value]) -> Result<WrittenCell, ReadDocEnd>
     ensures gives { Gives (λ entry. entry) result (spec.entry_from schema.now.attributes (map view items.now)) }
     ensures there { IfOk result (λ entry. entry.attr.0 < length schema.now.attributes) }
 {

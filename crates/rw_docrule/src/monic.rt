@@ -55,11 +55,7 @@ fn is_listed(listed: &[ObjectId], object: usize) -> bool
 }
 
 /// Of each object whether it is listed.
-fn marks_of(
-    alloc: Global,
-    objects: usize,
-    listed: &[ObjectId],
-) -> Result<Vec<bool>, OutOfMemory>
+fn marks_of(alloc: Global, objects: usize, listed: &[ObjectId]) -> Result<Vec<bool>, OutOfMemory>
     ensures { IfOk result (λ marks. marks.items ≡ spec.marks_of objects listed.now) }
 {
     let mut marks = Vec::new(alloc);

@@ -49,11 +49,7 @@ fn read_rows(alloc: Global, value: &Value) -> Result<Vec<Vec<u32>>, ReadDocEnd>
 }
 
 /// A pattern without entries on cells.
-fn read_plain_pattern(
-    alloc: Global,
-    schema: &Schema,
-    value: &Value,
-) -> Result<Pattern, ReadDocEnd>
+fn read_plain_pattern(alloc: Global, schema: &Schema, value: &Value) -> Result<Pattern, ReadDocEnd>
     ensures { Gives (λ pattern. pattern) result (spec.read_plain_pattern (signature_of schema.now) (view value.now)) }
 {
     with_keys(&["parts", "rows"], value)?;

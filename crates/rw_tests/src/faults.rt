@@ -15,7 +15,9 @@ const DOCUMENTS: &str = r#"
 {"format":-0,"schema":{"objects":[],"arrows":[]}} => {"at":[0,0,0],"fault":2,"section":"whole"}
 {"format":2,"schema":{"objects":[],"arrows":[]}} => {"at":[0,0,0],"fault":3,"section":"whole"}
 {"format":18446744073709551615,"schema":[]} => {"at":[0,0,0],"fault":3,"section":"whole"}
-{"format":1,"schema":{"objects":[],"arrows":[]},"schedule":[]} => {"at":[0,0,0],"fault":16,"section":"whole"}"#;
+{"format":1,"schema":{"objects":[],"arrows":[]},"schedule":[]} => {"at":[0,0,0],"fault":16,"section":"whole"}
+{"format":1,"schema":{"objects":["V"],"arrows":[],"attributes":[["w","V","int"],["t","V","text"]]},"watches":[{"name":"x","pattern":{"parts":[1],"rows":[],"cells":[["w",0,{"var":"a"}],["t",0,{"var":"a"}]]}}]} => {"at":[0,0,0],"fault":16,"section":"whole"}
+{"format":1,"schema":{"objects":["V"],"arrows":[],"attributes":[["w","V","int"]]},"rules":[{"name":"r","kind":"dpo","left":{"parts":[1],"rows":[]},"keep":{"parts":[1],"rows":[]},"right":{"parts":[1],"rows":[]},"l":[[0]],"r":[[0]]}]} => {"at":[0,0,0],"fault":16,"section":"whole"}"#;
 
 /// Schemas, and the line of the document with each.
 const SCHEMAS: &str = r#"
@@ -91,7 +93,7 @@ fn check_cases(
 #[test]
 fn faults_of_the_top_object(rt: HostRuntime) -> Result<(), Fail> {
     let count = check_cases(&rt, rt.alloc(), "", DOCUMENTS, "")?;
-    assert_eq!(rt; count, 9);
+    assert_eq!(rt; count, 11);
     Ok(())
 }
 

@@ -2,7 +2,7 @@
 use Rattle.std.proofs.Common.{codes}
 use Rattle.serde_json.specs.View.{view}
 use Rattle.rw_schema.specs.Presentation.{signature_of}
-use Rattle.rw_rule.specs.RuleParts.{goal_of_parts, rule_of_parts}
+use Rattle.rw_rule.specs.RuleParts.{goal_of_parts}
 use Rattle.rw_docrule.proofs.SoundPatterns.{plain_at_built}
 use Rattle.rw_docrule.proofs.SoundRules.{goal_over, parts_over}
 use Rattle.rw_docrule.proofs.rules.read_rule.Goals as goal

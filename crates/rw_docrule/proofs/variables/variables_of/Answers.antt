@@ -11,11 +11,11 @@ pub loop-entry-preserved : goal.loop-entry-preserved
 loop-entry-preserved c =
     elim c.match-new_name.branch [
       | in-Some+in_ok-push+in_ok-push-2 w ↦
-        rw (w.names-is, w.kinds-is, w.in_ok-push.ensures.ok, w.as_str.ensures, w.in_ok-push-2.ensures.items, w.kind_of.ensures)
-        (met_more c.args.schema.now.attributes c.args.entries.now c.loop-entry.entry-index c.loop-entry.names c.loop-entry.kinds.items c.entry-item.result w.in-Some.name.now
-        c.loop-entry.invariant c.loop-entry-test.true c.entry-item.is (sym w.in-Some.ensures.name))
+          rw (w.names-is, w.kinds-is, w.in_ok-push.ensures.ok, w.as_str.ensures, w.in_ok-push-2.ensures.items, w.kind_of.ensures)
+          (met_more c.args.schema.now.attributes c.args.entries.now c.loop-entry.entry-index c.loop-entry.names c.loop-entry.kinds.items c.entry-item.result w.in-Some.name.now
+          c.loop-entry.invariant c.loop-entry-test.true c.entry-item.is (sym w.in-Some.ensures.name))
       | in_default w ↦
-        rw (w.names-is, w.kinds-is)
-        (met_same c.args.schema.now.attributes c.args.entries.now c.loop-entry.entry-index c.loop-entry.names c.loop-entry.kinds.items c.entry-item.result
-        c.loop-entry.invariant c.loop-entry-test.true c.entry-item.is (sym w.in_default.ensures.name))
+          rw (w.names-is, w.kinds-is)
+          (met_same c.args.schema.now.attributes c.args.entries.now c.loop-entry.entry-index c.loop-entry.names c.loop-entry.kinds.items c.entry-item.result
+          c.loop-entry.invariant c.loop-entry-test.true c.entry-item.is (sym w.in_default.ensures.name))
     ]
