@@ -10,7 +10,7 @@ use Rattle.std.proofs.lemmas.Slice.Eq.{bytes_eq-Decides}
 use Rattle.rw_schema.specs.declared.atom.Kind.{Kind}
 use Rattle.rw_schema.specs.declared.parts.AttrDef.{AttrDef}
 use Rattle.rw_schema.specs.First.{flat_map_in}
-use Rattle.rw_schema.proofs.Lists.{list_any_map, position_map}
+use Rattle.rw_schema.proofs.Lists.{position_map}
 use Rattle.rw_pattern.specs.declared.cell.PatternCell.{PatternCell}
 use Rattle.rw_pattern.specs.declared.cell.Want.TheVariants as wants
 use Rattle.rw_pattern.proofs.Sequences.{flat_map_in_more}
@@ -37,12 +37,6 @@ pub record Met (attributes : List AttrDef) (entries : List WrittenCell) (place :
   pub kinds_are : kinds ≡ map (kind_at attributes) (firsts_before entries place)
   pub known : (name : List ℕ) → list_any (has_variable name) (take place entries) ≡ list_any (bytes_eq name) names
   pub few : length names ≤ place
-
--- a name is among those of variables where one of the entries has it
-pub any_named : (entries : List WrittenCell) (names : List (List ℕ)) (name : List ℕ) → AreNames entries names
-    → list_any (has_variable name) entries ≡ list_any (bytes_eq name) names
-any_named entries names name are =
-    sym (list_any_map (names_it name) want_of entries) ∙ ap (list_any (names_it name)) are ∙ list_any_map (names_it name) Var names
 
 -- a name has the place of the entry that has it
 pub position_named : (entries : List WrittenCell) (names : List (List ℕ)) (name : List ℕ) → AreNames entries names
