@@ -1,13 +1,10 @@
 -- The instance without a part.
-use Rattle.std.proofs.Common.{◌≡◌, ◌∙◌, ℕ, zero, suc, Option, None, List, [], length, get_or, map, replicate, slice_index, slice_get, refl}
-use Rattle.std.specs.List.{range_with_len}
+use Rattle.std.proofs.Common.{◌≡◌, ◌∙◌, ℕ, zero, suc, Option, None, List, [], length, get_or, replicate, refl}
 use Rattle.std.proofs.lemmas.List.{length-replicate}
 use Rattle.rw_schema.specs.declared.atom.Atom.{Atom}
-use Rattle.rw_schema.specs.First.{first_in}
-use Rattle.rw_schema.specs.RowLists.{list_at}
 use Rattle.rw_schema.specs.Signature.{Signature}
 use Rattle.rw_spec.specs.Instance.{instance_of}
-use Rattle.rw_table.specs.TableFaults.{failure_of, equation_fault, table_fault}
+use Rattle.rw_table.specs.TableFaults.{failure_of, table_fault}
 use Rattle.rw_doc.specs.Instances.{rows_of, empty_instance}
 use Rattle.rw_doc.proofs.Faultless.{none_first}
 use Rattle.rw_doc.proofs.PartLists.{AreLists, names_at, only_equations_fail}

@@ -1,11 +1,10 @@
 -- The first failure of an equation, as a table and as a document have it.
-use Rattle.std.proofs.Common.{◌≡◌, ◌∙◌, ℕ, ◌+◌, Bool, true, false, Option, Some, None, option_map, Result, Ok, Err, List, [], ◌∷◌, refl, sym, subst}
-use Rattle.rw_schema.specs.declared.parts.Equation as parts
+use Rattle.std.proofs.Common.{◌≡◌, ◌∙◌, ℕ, ◌+◌, Bool, true, false, Option, Some, None, option_map, Ok, Err, List, [], ◌∷◌, refl, sym, subst}
 use Rattle.rw_schema.specs.declared.section.Section.TheVariants as sections
 use Rattle.rw_schema.specs.First.{or_else, first_in, fault_unless}
 use Rattle.rw_schema.specs.RowLists.{RowLists}
 use Rattle.rw_schema.specs.Signature.{Signature}
-use Rattle.rw_spec.specs.Instance.{Instance, agrees_at, instance_of}
+use Rattle.rw_spec.specs.Instance.{agrees_at, instance_of}
 use Rattle.rw_table.specs.declared.fault.TableFault.{TableFault}
 use Rattle.rw_table.specs.declared.fault.TableFault.TheVariants.{Shape, Names, Range, Kind, Equation, OutOfMemory}
 use Rattle.rw_table.specs.TableFaults.{table_fault, equation_fault, failure_of, BuildsTable}

@@ -1,5 +1,5 @@
 -- The lists of an instance whose parts are named from 0.
-use Rattle.std.proofs.Common.{◌≡◌, ◌∙◌, ℕ, zero, suc, ◌+◌, ◌<◌, ◌≤◌, ◌==◌, Bool, true, nat_lt, ◌&&◌, ◌||◌, Option, Some, None, List, [], ◌∷◌, length, map, slice_get, slice_index, refl, ap, sym, subst, arith, add-zero, zero-add, inl, inr}
+use Rattle.std.proofs.Common.{◌≡◌, ◌∙◌, ℕ, zero, suc, ◌+◌, ◌<◌, ◌≤◌, ◌==◌, Bool, true, nat_lt, Option, Some, None, List, [], ◌∷◌, length, map, slice_get, slice_index, refl, subst, arith, add-zero, zero-add, inl, inr}
 use Rattle.std.specs.List.{list_all, list_any, range_with_len}
 use Rattle.std.proofs.lemmas.Bool.{and_parts, eq-eqb, lt-ltb, ltb-true, or_left, or_right, cases_eq}
 use Rattle.std.proofs.lemmas.List.{length-map}
@@ -8,12 +8,11 @@ use Rattle.std.proofs.lemmas.Option.{get_or_from_slice_get}
 use Rattle.rw_schema.specs.declared.atom.Atom.{Atom}
 use Rattle.rw_schema.specs.declared.signature.ArrowEnds.{ArrowEnds}
 use Rattle.rw_schema.specs.declared.signature.AttrEnds.{AttrEnds}
-use Rattle.rw_schema.specs.First.{or_else, first_in, fault_unless, all_in}
-use Rattle.rw_schema.specs.RowLists.{RowLists, list_at}
+use Rattle.rw_schema.specs.First.{fault_unless, all_in}
+use Rattle.rw_schema.specs.RowLists.{list_at}
 use Rattle.rw_schema.specs.Signature.{Signature}
 use Rattle.rw_schema.proofs.Firsts.{unless_true}
 use Rattle.rw_schema.proofs.Lists.{slice_get_mapped}
-use Rattle.rw_table.specs.declared.fault.TableFault.{TableFault}
 use Rattle.rw_table.specs.declared.fault.TableFault.TheVariants as faults
 use Rattle.rw_table.specs.TableFaults.{has_length, has_cells, has_shape, ascends, are_names, names_fault, row_fault, range_fault, is_cell_of, cell_fault, kind_fault, equation_fault, table_fault}
 use Rattle.rw_doc.specs.Instances.{rows_of}

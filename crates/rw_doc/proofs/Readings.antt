@@ -1,8 +1,8 @@
 -- Readings of lists, one item after the other.
-use Rattle.std.proofs.Common.{◌≡◌, ℕ, zero, suc, add-zero, arith, ◌+◌, ◌<◌, ◌∙◌, inl, inr, false, length, get_or, sym, add-one, drop-cons, Result, Ok, Err, List, [], ◌∷◌, ◌++◌, map, take, drop, refl, ap, string_bytes, String, Global, Bor}
+use Rattle.std.proofs.Common.{◌≡◌, ℕ, zero, suc, add-zero, arith, ◌+◌, ◌<◌, ◌∙◌, inl, inr, false, length, get_or, sym, add-one, drop-cons, Result, Ok, Err, List, [], ◌∷◌, ◌++◌, map, drop, refl, ap, string_bytes, String, Global, Bor}
 use Rattle.std.specs.List.{list_all, list_any, range_with_len}
 use Rattle.std.specs.Str.{bytes_eq, IsUtf8, is_utf8}
-use Rattle.std.proofs.lemmas.List.{append_assoc, take-map}
+use Rattle.std.proofs.lemmas.List.{append_assoc}
 use Rattle.std.proofs.lemmas.Bool.{cases_Bool}
 use Rattle.std.proofs.lemmas.Str.{IsUtf8-from_is_utf8}
 use Rattle.serde_json.specs.Data.{Data}

@@ -1,5 +1,5 @@
 -- What is read as the lists of an instance is one, unless an equation fails.
-use Rattle.std.proofs.Common.{◌≡◌, ◌∙◌, ◌+◌, ◌<◌, ◌≤◌, ◌==◌, ℕ, Bool, true, false, nat_le, nat_lt, if◌then◌else◌, Option, Some, None, option_and_then, Result, Ok, Err, List, [], ◌∷◌, length, slice_get, slice_index, refl, ap, sym, subst, arith, zero-add}
+use Rattle.std.proofs.Common.{◌≡◌, ◌∙◌, ◌<◌, ◌≤◌, ◌==◌, ℕ, Bool, true, false, nat_le, nat_lt, if◌then◌else◌, Option, Some, None, Result, Ok, List, length, slice_get, slice_index, refl, ap, subst, arith, zero-add}
 use Rattle.std.specs.List.{All, list_all}
 use Rattle.std.proofs.lemmas.Bool.{leb-true, eqb-true}
 use Rattle.std.proofs.lemmas.Option.{slice_get_within}
@@ -8,7 +8,6 @@ use Rattle.rw_schema.specs.declared.atom.Atom.{Atom}
 use Rattle.rw_schema.specs.declared.section.Section.TheVariants.{Parts, Rows, Cells}
 use Rattle.rw_schema.specs.declared.signature.ArrowEnds.{ArrowEnds}
 use Rattle.rw_schema.specs.declared.signature.AttrEnds.{AttrEnds}
-use Rattle.rw_schema.specs.Atoms.{is_of_kind}
 use Rattle.rw_schema.specs.RowLists.{list_at}
 use Rattle.rw_schema.specs.Signature.{Signature, source_of, holder_of}
 use Rattle.rw_schema.proofs.Lists.{list_at_within}
@@ -16,7 +15,7 @@ use Rattle.rw_spec.specs.Ends.{target_of}
 use Rattle.rw_spec.proofs.Signatures.{source_is, holder_is}
 use Rattle.rw_table.specs.TableFaults.{is_cell_of, table_fault, equation_fault}
 use Rattle.rw_doc.specs.declared.fault.DocFault.{DocFault}
-use Rattle.rw_doc.specs.Chain.{and_then, each_in, some_or, checked}
+use Rattle.rw_doc.specs.Chain.{each_in, some_or, checked}
 use Rattle.rw_doc.specs.Faults.{fault_at, fault_of}
 use Rattle.rw_doc.specs.Instances as spec
 use Rattle.rw_doc.specs.Json.{as_list, as_count, is_null, atom_of, is_short}

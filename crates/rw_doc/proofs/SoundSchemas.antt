@@ -1,8 +1,8 @@
 -- What is read as a schema is one.
-use Rattle.std.proofs.Common.{◌≡◌, ◌∙◌, ◌+◌, ◌≤◌, ℕ, Bool, true, false, not, nat_le, nat_lt, ◌&&◌, Option, Some, None, option_and_then, Result, Ok, Err, List, [], ◌∷◌, ◌++◌, length, refl, ap, sym, subst, arith}
+use Rattle.std.proofs.Common.{◌≡◌, ◌+◌, ◌≤◌, ℕ, true, not, nat_le, Option, Some, None, option_and_then, Ok, List, [], ◌∷◌, ◌++◌, length, refl, subst, arith}
 use Rattle.std.specs.List.{list_all, list_any}
 use Rattle.std.specs.Str.{bytes_eq}
-use Rattle.std.proofs.lemmas.Bool.{leb-true, le-leb, not-true, and_parts}
+use Rattle.std.proofs.lemmas.Bool.{leb-true, le-leb, not-true}
 use Rattle.std.proofs.lemmas.List.Folds.{list_all-append}
 use Rattle.serde_json.specs.Data.{Data}
 use Rattle.serde_json.specs.Find.{as_str}
@@ -14,10 +14,10 @@ use Rattle.rw_schema.specs.declared.parts.Equation as parts
 use Rattle.rw_schema.specs.declared.section.Section.{Section}
 use Rattle.rw_schema.specs.declared.section.Section.TheVariants.{Objects, Arrows, Attributes, Equations}
 use Rattle.rw_schema.specs.Presentation.{Presentation}
-use Rattle.rw_schema.specs.SchemaFaults.{is_name, has_ends, has_holder, is_of_schema, has_arrows, has_short_sides, sides_meet, object_name, arrow_name, attribute_name, schema_fault}
+use Rattle.rw_schema.specs.SchemaFaults.{is_name, has_ends, has_holder, is_of_schema, has_short_sides, sides_meet, object_name, arrow_name, attribute_name, schema_fault}
 use Rattle.rw_schema.proofs.Schemas.{misplaced_first}
 use Rattle.rw_doc.specs.declared.fault.DocFault.{DocFault}
-use Rattle.rw_doc.specs.Chain.{and_then, each_in, each_after, some_or, checked}
+use Rattle.rw_doc.specs.Chain.{each_in, each_after, some_or}
 use Rattle.rw_doc.specs.Faults.{fault_at, fault_of}
 use Rattle.rw_doc.specs.Json.{as_list}
 use Rattle.rw_doc.specs.Schemas

@@ -1,6 +1,6 @@
 -- The instance that a JSON value is, or its first fault. The sections are read in the order in which they stand here, and the
 -- entries of each in their order; within an entry the least code comes first.
-use Rattle.std.specs.Prelude.{◌==◌, ℕ, Bool, false, nat_le, nat_lt, length, map, codes, replicate, List, [], ◌∷◌, Option, Some, None, Result, Ok, Err, if◌then◌else◌, slice_get, slice_index}
+use Rattle.std.specs.Prelude.{◌==◌, ℕ, Bool, false, nat_le, nat_lt, length, map, codes, replicate, List, [], ◌∷◌, Option, Some, None, Result, Ok, if◌then◌else◌, slice_get, slice_index}
 use Rattle.std.specs.List.{range_with_len}
 use Rattle.serde_json.specs.Data.{Data}
 use Rattle.serde_json.specs.Find.{get}

@@ -1,6 +1,6 @@
 -- The schema that a JSON value is, or its first fault. The sections are read in the order in which they stand here, and the
 -- entries of each in their order; within an entry the least code comes first.
-use Rattle.std.specs.Prelude.{ℕ, Bool, not, ◌&&◌, nat_le, length, codes, List, [], ◌∷◌, Option, Some, None, option_and_then, option_map, Result, Ok, Err, if◌then◌else◌, position}
+use Rattle.std.specs.Prelude.{ℕ, Bool, not, ◌&&◌, nat_le, length, codes, List, [], ◌∷◌, Option, Some, None, option_and_then, option_map, Result, Ok, if◌then◌else◌, position}
 use Rattle.std.specs.List.{list_any}
 use Rattle.std.specs.Str.{bytes_eq}
 use Rattle.serde_json.specs.Data.{Data}
@@ -101,10 +101,10 @@ kind_named name =
 abbrev pub attribute_texts : List Data → Option AttributeTexts
 attribute_texts [] = None
 attribute_texts (name ∷ []) = None
-attribute_texts (name ∷ object ∷ []) = None
-attribute_texts (name ∷ object ∷ kind ∷ []) = option_and_then (λ name. option_and_then (λ object.
-    option_map (λ kind. record { name = name; object = object; kind = kind }) (option_and_then kind_named (as_str kind))) (as_str object)) (as_str name)
-attribute_texts (name ∷ object ∷ kind ∷ other ∷ others) = None
+attribute_texts (name ∷ holder ∷ []) = None
+attribute_texts (name ∷ holder ∷ kind ∷ []) = option_and_then (λ name. option_and_then (λ object.
+    option_map (λ kind. record { name = name; object = object; kind = kind }) (option_and_then kind_named (as_str kind))) (as_str holder)) (as_str name)
+attribute_texts (name ∷ holder ∷ kind ∷ other ∷ others) = None
 
 -- an attribute: codes 2, 4, 5 and 6
 abbrev pub read_attribute : List (List ℕ) → List AttrDef → Data → Result AttrDef DocFault
@@ -127,11 +127,11 @@ pub record EquationTexts : Type 0 where
 -- a list of a text and two lists of texts: the object and the two paths
 abbrev pub equation_texts : List Data → Option EquationTexts
 equation_texts [] = None
-equation_texts (object ∷ []) = None
-equation_texts (object ∷ left ∷ []) = None
-equation_texts (object ∷ left ∷ right ∷ []) = option_and_then (λ object. option_and_then (λ left.
-    option_map (λ right. record { object = object; left = left; right = right }) (as_texts right)) (as_texts left)) (as_str object)
-equation_texts (object ∷ left ∷ right ∷ other ∷ others) = None
+equation_texts (base ∷ []) = None
+equation_texts (base ∷ left ∷ []) = None
+equation_texts (base ∷ left ∷ right ∷ []) = option_and_then (λ object. option_and_then (λ left.
+    option_map (λ right. record { object = object; left = left; right = right }) (as_texts right)) (as_texts left)) (as_str base)
+equation_texts (base ∷ left ∷ right ∷ other ∷ others) = None
 
 -- each path has at most 32 arrows
 abbrev pub has_short_paths : EquationTexts → Bool

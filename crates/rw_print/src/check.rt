@@ -10,11 +10,7 @@ use serde_json::{Value, json};
 use std::alloc::{AllocError, Global};
 
 /// The line `{"lists":[length,..],"sizes":[count,..]}`.
-pub fn check_line(
-    alloc: Global,
-    lists: &Vec<u64>,
-    sizes: &Vec<u64>,
-) -> Result<Vec<u8>, OutOfMemory>
+pub fn check_line(alloc: Global, lists: &Vec<u64>, sizes: &Vec<u64>) -> Result<Vec<u8>, OutOfMemory>
     ensures { IfOk result (λ text. text.items ≡ line (check_data lists.now.items sizes.now.items)) }
 {
     let value = check_value(alloc, lists.as_slice(), sizes.as_slice())?;

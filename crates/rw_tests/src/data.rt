@@ -53,26 +53,12 @@ fn lists_and_sizes_are_checked(rt: HostRuntime) -> Result<(), Fail> {
 #[test]
 fn equations_hold_at_each_part(rt: HostRuntime) -> Result<(), Fail> {
     let twisted = "{\"at\":[1,0,0],\"fault\":10,\"section\":\"equation\"}\n";
-    check(
-        &rt,
-        rt.alloc(),
-        &["check"],
-        TWISTED.as_bytes(),
-        3,
-        twisted,
-    )
+    check(&rt, rt.alloc(), &["check"], TWISTED.as_bytes(), 3, twisted)
 }
 
 #[test]
 fn symmetric_edges_are_cut(rt: HostRuntime) -> Result<(), Fail> {
     let text =
         "{\"box\":0,\"lists\":[[0,[[0,1,0,1],[1,0,1,0]],[]]],\"match\":[0,1,0,1],\"refused\":[],\"rule\":\"cut\"}\n{\"box\":0,\"lists\":[],\"match\":null,\"refused\":[],\"rule\":\"cut\"}\n{\"end\":\"done\",\"fuel\":998,\"lists\":[0],\"sizes\":[2,0]}\n";
-    check(
-        &rt,
-        rt.alloc(),
-        &["run"],
-        SYMMETRIC_CUT.as_bytes(),
-        0,
-        text,
-    )
+    check(&rt, rt.alloc(), &["run"], SYMMETRIC_CUT.as_bytes(), 0, text)
 }

@@ -106,7 +106,8 @@ fn faults_of_schemas(rt: HostRuntime) -> Result<(), Fail> {
 
 #[test]
 fn faults_of_instances(rt: HostRuntime) -> Result<(), Fail> {
-    let before = r#"{"format":1,"schema":{"objects":["V","E"],"arrows":[["src","E","V"],["tgt","E","V"]],"attributes":[["w","V","int"]]},"instance":"#;
+    let before =
+        r#"{"format":1,"schema":{"objects":["V","E"],"arrows":[["src","E","V"],["tgt","E","V"]],"attributes":[["w","V","int"]]},"instance":"#;
     let count = check_cases(&rt, rt.alloc(), before, INSTANCES, "}")?;
     assert_eq!(rt; count, 21);
     Ok(())

@@ -1,8 +1,5 @@
 -- The items are texts exactly where each of them is one.
-use Rattle.std.proofs.Common.{◌∙◌, Some, None, option_and_then, ap, sym, map}
-use Rattle.serde_json.specs.Find.{as_str}
-use Rattle.serde_json.specs.View.{view}
-use Rattle.rw_doc.specs.Chain.{all_some}
+use Rattle.std.proofs.Common.{◌∙◌, sym}
 use Rattle.rw_doc.proofs.TextLists.{all_are_texts, one_is_no_text}
 use Rattle.rw_doc.proofs.equations.texts_of.Goals as goal
 

@@ -1,5 +1,5 @@
 -- What was read has one number for each object, and no fault but that of an equation.
-use Rattle.std.proofs.Common.{◌≡◌, ◌∙◌, map, option_map, Ok}
+use Rattle.std.proofs.Common.{map, option_map}
 use Rattle.serde_json.specs.View.{view}
 use Rattle.rw_schema.specs.Presentation.{signature_of}
 use Rattle.rw_doc.proofs.SoundInstances.{parts_read, lists_sound}
