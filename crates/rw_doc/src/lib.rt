@@ -16,8 +16,6 @@ mod parts;
 mod paths;
 mod rows;
 mod schema;
-#[cfg(test)]
-mod tests;
 
 pub use end::ReadDocEnd;
 pub use fault::DocFault;
