@@ -1,0 +1,5 @@
+pub mod Entries
+pub mod Evaluable
+pub mod Examples
+pub mod Remainders
+pub mod TermValues

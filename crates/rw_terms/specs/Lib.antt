@@ -1,0 +1,4 @@
+pub mod OpEntries
+pub mod OpTables
+pub mod OpValues
+pub mod Terms
