@@ -1,4 +1,6 @@
+pub mod Images
 pub mod PlainRules
 pub mod RuleFaults
 pub mod RuleLists
 pub mod RuleParts
+pub mod Sets

@@ -1,8 +1,12 @@
 //! The kinds of rules: what a step of a rule means.
 
-/// The kind of a rule. The other kinds are to come.
+/// The kind of a rule.
 #[derive(Clone, Copy, Debug, PartialEq, Eq)]
 pub enum RuleKind {
     /// Double pushout (Ehrig, Pfender, Schneider, "Graph-grammars: an algebraic approach", 1973).
     Dpo,
+    /// Single pushout (Löwe, "Algebraic approach to single-pushout graph transformation", 1993).
+    Spo,
+    /// Sesqui-pushout (Corradini, Heindel, Hermann, König, "Sesqui-pushout rewriting", 2006).
+    Sqpo,
 }

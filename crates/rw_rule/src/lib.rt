@@ -1,22 +1,28 @@
 //! Rewriting rules: spans of patterns.
 #![tactic(auto)]
 
+mod condition;
 mod fault;
 mod goal;
+mod images;
 mod kind;
 mod parts;
 mod plain;
 mod refusal;
 mod rule;
+mod set;
 mod watch;
 
+pub use condition::Condition;
 pub use fault::RuleFault;
 pub use goal::Goal;
+pub use images::is_one_to_one;
 pub use kind::RuleKind;
 pub use parts::RuleParts;
 pub use plain::is_plain;
 pub use refusal::Refusal;
 pub use rule::Rule;
+pub use set::SetCell;
 pub use watch::Watch;
 
 #[cfg(test)]

@@ -1,11 +1,11 @@
 //! What a rule is built from.
 
-use crate::{Goal, RuleKind};
+use crate::{Goal, RuleKind, SetCell};
 use rw_pattern::Pattern;
 use rw_schema::{PartMap, Text};
 
-/// The parts of a rule: what is looked for, what of it is kept, what stands there afterwards, and the two maps from
-/// the kept pattern.
+/// The parts of a rule: what is looked for, what of it is kept, what stands there afterwards and which of its cells are
+/// set, and the two maps from the kept pattern.
 #[derive(Drop)]
 pub struct RuleParts {
     pub name: Text,
@@ -13,6 +13,7 @@ pub struct RuleParts {
     pub goal: Goal,
     pub keep: Pattern,
     pub right: Pattern,
+    pub sets: Vec<SetCell>,
     pub l: PartMap,
     pub r: PartMap,
 }

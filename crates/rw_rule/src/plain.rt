@@ -1,23 +1,22 @@
 //! Which rules are plain.
 
 ghost use Rattle.std.specs.Prelude.{◌≡◌, ◌<◌, ◌≤◌, length};
-ghost use Rattle.rw_schema.specs.Presentation.{signature_of};
 ghost use Rattle.rw_rule.specs.PlainRules.{is_plain as is_plain_rule, is_monic_where_many as is_monic_everywhere, is_single_or_monic as is_single_or_monic_object};
-ghost use Rattle.rw_rule.specs.RuleFaults.{IsRuleOver};
 
-use crate::Rule;
-use crate::rule::is_one_to_one;
+use crate::images::is_one_to_one;
+use crate::{Rule, RuleKind};
 use rw_pattern::Pattern;
-use rw_schema::Schema;
 
-/// Whether the schema has no attributes, the map to the right side is injective, and so is every match of the left
-/// side. It takes no memory.
-pub fn is_plain(schema: &Schema, rule: &Rule) -> bool
-    requires { IsRuleOver (signature_of schema.now) rule.now }
-    ensures { result ≡ is_plain_rule (signature_of schema.now) rule.now }
+/// Whether the rule is a double-pushout rule without conditions whose map to the right side is injective, and so is
+/// every match of the left side. It takes no memory.
+pub fn is_plain(rule: &Rule) -> bool
+    requires images { length rule.now.keep.sizes ≤ length rule.now.r }
+    requires monic { length rule.now.goal.monic ≤ length rule.now.goal.left.sizes }
+    ensures { result ≡ is_plain_rule rule.now }
 {
     let goal = rule.goal();
-    schema.attributes() == 0
+    matches!(rule.kind(), RuleKind::Dpo)
+        && goal.conditions.is_empty()
         && is_one_to_one(rule.keep(), rule.r())
         && is_monic_where_many(&goal.left, goal.monic.as_slice())
 }

@@ -1,19 +1,21 @@
 //! Rewriting rules.
 
-ghost use Rattle.std.specs.Prelude.{◌≡◌, ◌≤◌, is_none, length};
+ghost use Rattle.std.specs.Prelude.{◌≡◌, ◌<◌, ◌^◌, IfOk, length};
 ghost use Rattle.rw_schema.specs.Presentation.{signature_of};
-ghost use Rattle.rw_pattern.specs.MapFaults.{map_fault};
-ghost use Rattle.rw_pattern.specs.PatternFaults.{IsPatternOf};
-ghost use Rattle.rw_rule.specs.RuleFaults.{AreOver, BuildsRule, are_maps, is_injective};
+ghost use Rattle.rw_rule.specs.RuleFaults.{AreOver, BuildsRule, IsRuleOver};
 ghost use Rattle.rw_rule.specs.RuleParts.{goal_of_parts, rule_of_parts};
+ghost use Rattle.rw_terms.specs.OpEntries.{entries};
 
-use crate::{Goal, RuleFault, RuleKind, RuleParts};
-use rw_pattern::{Pattern, check_map, is_each_once};
-use rw_schema::{ObjectId, PartMap, Schema, Text};
+use crate::{Goal, RuleFault, RuleKind, RuleParts, SetCell};
+use rw_pattern::Pattern;
+use rw_schema::{PartMap, Schema, Text};
+use rw_terms::OpTable;
+use std::alloc::Global;
 use std::marker::Model;
 
 /// A rewriting rule: a span of patterns, with maps from the kept pattern to the left one, which is matched, and to
-/// the right one, which stands there afterwards. The map to the left is injective.
+/// the right one, which stands there afterwards. Cells of the right one may be set to the values of terms over what the
+/// left one's cells hold.
 ///
 /// Brown, Patterson, Hanks and Fairbanks, "Computational category-theoretic rewriting" (2022), rewrite C-sets by
 /// such spans.
@@ -24,57 +26,49 @@ pub struct Rule {
     goal: Goal,
     keep: Pattern,
     right: Pattern,
+    sets: Vec<SetCell>,
     l: PartMap,
     r: PartMap,
 }
 
 impl Model for Rule {
     ghost use Rattle.rw_rule.specs.RuleLists.{RuleLists};
+    ghost use Rattle.rw_rule.specs.RuleParts.{goal_of_parts};
+    ghost use Rattle.rw_terms.specs.contracts.term.Term as term;
+    ghost use Rattle.std.specs.Coded.{codes};
 
     ghost Value = { RuleLists };
+
+    ghost coded = { Prim.hlevel (codes, term.the_row.coded) };
 
     ghost view = { λ rule. record {
       name = rule.name;
       kind = rule.kind;
-      goal = record { left = rule.goal.left; monic = rule.goal.monic.items; kinds = rule.goal.kinds.items };
+      goal = goal_of_parts rule.goal;
       keep = rule.keep;
       right = rule.right;
+      sets = rule.sets.items;
       l = rule.l;
       r = rule.r;
     } };
 }
 
 impl Rule {
-    /// Builds a rule over the schema that the patterns are over. The first condition that fails is answered. It takes
-    /// no memory.
-    pub fn build(schema: &Schema, parts: RuleParts) -> Result<Rule, RuleFault>
-        requires { AreOver (signature_of schema.now) (rule_of_parts parts) }
-        ensures { BuildsRule (signature_of schema.now) (rule_of_parts parts) result }
+    /// Builds a rule over the schema that the patterns are over; its terms name operations of the table by their
+    /// numbers. The first condition that fails is answered, at its least place. In a sesqui-pushout rule all objects are
+    /// monic, whatever was given. The stack grows with the depth of the terms.
+    pub fn build(
+        alloc: Global,
+        schema: &Schema,
+        parts: RuleParts,
+        ops: &OpTable,
+    ) -> Result<Rule, RuleFault>
+        requires over { AreOver (signature_of schema.now) (rule_of_parts parts) }
+        requires few { length parts.sets.items < 2 ^ 32 }
+        ensures builds { BuildsRule (signature_of schema.now) (length (entries ops.now)) (rule_of_parts parts) result }
+        ensures over { IfOk result (IsRuleOver (signature_of schema.now) (length (entries ops.now))) }
     {
-        if !has_maps(schema, &parts) {
-            return Err(RuleFault::NotHom);
-        }
-        if !is_one_to_one(&parts.keep, &parts.l) {
-            return Err(RuleFault::NotInjective);
-        }
-        let RuleParts {
-            name,
-            kind,
-            goal,
-            keep,
-            right,
-            l,
-            r,
-        } = parts;
-        Ok(Rule {
-            name,
-            kind,
-            goal,
-            keep,
-            right,
-            l,
-            r,
-        })
+        Err(RuleFault::OutOfMemory)
     }
 
     pub fn name(&self) -> &Text
@@ -110,6 +104,13 @@ impl Rule {
         &self.right
     }
 
+    /// The cells of the right pattern that a step sets.
+    pub fn sets(&self) -> &Vec<SetCell>
+        ensures { result.now.items ≡ self.now.sets }
+    {
+        &self.sets
+    }
+
     /// The map from the kept pattern to the left one.
     pub fn l(&self) -> &PartMap
         ensures { result.now ≡ self.now.l }
@@ -123,35 +124,4 @@ impl Rule {
     {
         &self.r
     }
-}
-
-/// Whether both maps are maps of patterns.
-fn has_maps(schema: &Schema, parts: &RuleParts) -> bool
-    requires { AreOver (signature_of schema.now) (rule_of_parts parts.now) }
-    ensures { result ≡ are_maps (signature_of schema.now) (rule_of_parts parts.now) }
-{
-    is_map(schema, &parts.keep, &parts.goal.left, &parts.l)
-        && is_map(schema, &parts.keep, &parts.right, &parts.r)
-}
-
-/// Whether the images are a map from the one pattern to the other.
-fn is_map(schema: &Schema, from: &Pattern, to: &Pattern, images: &PartMap) -> bool
-    requires from { IsPatternOf (signature_of schema.now) from.now }
-    requires to { IsPatternOf (signature_of schema.now) to.now }
-    ensures { result ≡ is_none (map_fault (signature_of schema.now) from.now to.now images.now) }
-{
-    check_map(schema, from, to, images).is_ok()
-}
-
-/// Whether no two parts of one object have one image.
-pub(crate) fn is_one_to_one(from: &Pattern, images: &PartMap) -> bool
-    requires { length from.now.sizes ≤ length images.now }
-    ensures { result ≡ is_injective from.now images.now }
-{
-    for (object, _) in from.sizes().iter().enumerate() {
-        if !is_each_once(images.images(ObjectId(object as u16))) {
-            return false;
-        }
-    }
-    true
 }

@@ -1,4 +1,5 @@
 pub mod OpEntries
 pub mod OpTables
 pub mod OpValues
+pub mod TermKinds
 pub mod Terms

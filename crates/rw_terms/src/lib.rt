@@ -6,6 +6,7 @@
 
 mod code;
 mod fault;
+mod kinds;
 mod op;
 mod table;
 mod term;

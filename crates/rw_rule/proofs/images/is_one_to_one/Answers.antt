@@ -4,8 +4,8 @@ use Rattle.std.proofs.lemmas.List.{get_or_default}
 use Rattle.rw_schema.specs.First.{all_in}
 use Rattle.rw_pattern.proofs.Sequences.{all_in_next}
 use Rattle.rw_spec.specs.Distinct.{are_distinct}
-use Rattle.rw_rule.specs.RuleFaults.{has_distinct_images}
-use Rattle.rw_rule.proofs.rule.is_one_to_one.Goals as goal
+use Rattle.rw_rule.specs.Images.{has_distinct_images}
+use Rattle.rw_rule.proofs.images.is_one_to_one.Goals as goal
 
 -- the images of the object, and then those of the objects that are left
 images_next : (images : List (List ℕ)) (sizes : List ℕ) (object : ℕ) (passes : Bool) → object < length sizes → has_distinct_images images object (get_or sizes object 0) ≡ passes

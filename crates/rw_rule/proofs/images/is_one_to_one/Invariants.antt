@@ -1,8 +1,8 @@
 -- All lists pass where those that are left do.
 use Rattle.std.proofs.Common.{◌≡◌, drop}
 use Rattle.rw_schema.specs.First.{all_in}
-use Rattle.rw_rule.specs.RuleFaults.{has_distinct_images}
-use Rattle.rw_rule.proofs.rule.is_one_to_one.Given as goal
+use Rattle.rw_rule.specs.Images.{has_distinct_images}
+use Rattle.rw_rule.proofs.images.is_one_to_one.Given as goal
 
 abbrev pub invariant-loop-object : goal.invariant-loop-object
 invariant-loop-object l =
