@@ -1,5 +1,5 @@
 -- Small cases of the definitions: what operations give at the ends of their range, and values of terms.
-use Rattle.std.proofs.Common.{◌≡◌, ◌^◌, ◌-◌, Some, None, List, [], ◌∷◌, true, false, pos, neg_ℤ, refl, ap, ◌∙◌, Box, Global}
+use Rattle.std.proofs.Common.{◌≡◌, ◌^◌, ◌-◌, Some, None, List, [], ◌∷◌, true, false, pos, neg_ℤ, refl, ap, ◌∙◌}
 use Rattle.rw_schema.specs.declared.atom.Atom.{Atom}
 use Rattle.rw_schema.specs.declared.atom.Atom.TheVariants as atoms
 use Rattle.rw_terms.specs.declared.code.OpCode.{OpCode}
@@ -78,25 +78,25 @@ abbrev values : List Atom
 values = atoms.Bool true ∷ atoms.Int (pos 4) ∷ []
 
 -- 4 + 3, of a variable and a constant
-sum_of_two : (first second : Box Term Global) → first.value ≡ terms.Var 1 → second.value ≡ terms.Const (atoms.Int (pos 3))
+sum_of_two : (first second : Term) → first ≡ terms.Var 1 → second ≡ terms.Const (atoms.Int (pos 3))
     → value_of codes values (terms.Op 1 first second) ≡ Some (atoms.Int (pos 7))
 sum_of_two first second variable constant =
     value_from_operands codes values 1 first second (Some (atoms.Int (pos 4))) (Some (atoms.Int (pos 3)))
     (rw variable (value_of_variable codes values 1)) (rw constant (value_of_constant codes values (atoms.Int (pos 3))))
 
 -- (4 + 3) - 9, of an operation and a constant
-difference_of_sum : (first second sum third : Box Term Global) → first.value ≡ terms.Var 1 → second.value ≡ terms.Const (atoms.Int (pos 3))
-    → sum.value ≡ terms.Op 1 first second → third.value ≡ terms.Const (atoms.Int (pos 9))
+difference_of_sum : (first second sum third : Term) → first ≡ terms.Var 1 → second ≡ terms.Const (atoms.Int (pos 3))
+    → sum ≡ terms.Op 1 first second → third ≡ terms.Const (atoms.Int (pos 9))
     → value_of codes values (terms.Op 0 sum third) ≡ Some (atoms.Int (neg_ℤ (pos 2)))
 difference_of_sum first second sum third variable constant operation last =
     value_from_operands codes values 0 sum third (Some (atoms.Int (pos 7))) (Some (atoms.Int (pos 9)))
     (rw operation (sum_of_two first second variable constant)) (rw last (value_of_constant codes values (atoms.Int (pos 9))))
 
 -- a sum out of range has no value, and neither has what it is an operand of
-no_value_within : (first second sum third : Box Term Global) → first.value ≡ terms.Var 1 → second.value ≡ terms.Const (atoms.Int (pos (2 ^ 63 - 1)))
-    → sum.value ≡ terms.Op 1 first second → third.value ≡ terms.Const (atoms.Int (pos 9)) → value_of codes values (terms.Op 0 sum third) ≡ None
+no_value_within : (first second sum third : Term) → first ≡ terms.Var 1 → second ≡ terms.Const (atoms.Int (pos (2 ^ 63 - 1)))
+    → sum ≡ terms.Op 1 first second → third ≡ terms.Const (atoms.Int (pos 9)) → value_of codes values (terms.Op 0 sum third) ≡ None
 no_value_within first second sum third variable constant operation last =
-    let greatest : value_of codes values second.value ≡ Some (atoms.Int (pos (2 ^ 63 - 1))) =
+    let greatest : value_of codes values second ≡ Some (atoms.Int (pos (2 ^ 63 - 1))) =
     rw constant (value_of_constant codes values (atoms.Int (pos (2 ^ 63 - 1)))) in
     let out_of_range : value_of codes values (terms.Op 1 first second) ≡ None =
     value_from_operands codes values 1 first second (Some (atoms.Int (pos 4))) (Some (atoms.Int (pos (2 ^ 63 - 1))))
@@ -109,13 +109,13 @@ unbound : is_evaluable codes values (terms.Var 2) ≡ false
 unbound = ap (λ (known : Fit). known.fits) (fit_of_variable codes values 2)
 
 -- an operation on numbers is evaluable
-on_numbers : (first second : Box Term Global) → first.value ≡ terms.Var 1 → second.value ≡ terms.Const (atoms.Int (pos 3))
+on_numbers : (first second : Term) → first ≡ terms.Var 1 → second ≡ terms.Const (atoms.Int (pos 3))
     → is_evaluable codes values (terms.Op 1 first second) ≡ true
 on_numbers first second variable constant =
     ap (λ (known : Fit). known.fits) (fit_of_operation codes values 1 first second)
     ∙ rw (variable, constant, fit_of_variable codes values 1, fit_of_constant codes values (atoms.Int (pos 3))) refl
 
 -- an operation on a truth is not
-on_truth : (first second : Box Term Global) → first.value ≡ terms.Var 0 → is_evaluable codes values (terms.Op 1 first second) ≡ false
+on_truth : (first second : Term) → first ≡ terms.Var 0 → is_evaluable codes values (terms.Op 1 first second) ≡ false
 on_truth first second variable =
     ap (λ (known : Fit). known.fits) (fit_of_operation codes values 1 first second) ∙ rw (variable, fit_of_variable codes values 0) refl

@@ -10,7 +10,7 @@ use Rattle.rw_terms.specs.declared.term.Term.TheOpen.{Term-F}
 abbrev pub variables_step : (ℕ → Bool) → Term-F Bool → Bool
 variables_step has (Term-F.Const atom) = true
 variables_step has (Term-F.Var variable) = has variable
-variables_step has (Term-F.Op op first second) = first.value && second.value
+variables_step has (Term-F.Op op first second) = first && second
 
 -- each variable of the term has the property
 abbrev pub has_only_variables : (ℕ → Bool) → Term → Bool
@@ -26,7 +26,7 @@ abbrev pub kind_step : ℕ → List Kind → Term-F (Option Kind) → Option Kin
 kind_step ops variables (Term-F.Const atom) = Some (kind_of atom)
 kind_step ops variables (Term-F.Var variable) = slice_get variables variable
 kind_step ops variables (Term-F.Op op first second) =
-    if nat_lt op ops && is_number_kind first.value && is_number_kind second.value then Some kinds.Int else None
+    if nat_lt op ops && is_number_kind first && is_number_kind second then Some kinds.Int else None
 
 -- the kind of a term: none where a variable or an operation is not there, or an operand is no number
 abbrev pub kind_of_term : ℕ → List Kind → Term → Option Kind
@@ -36,7 +36,7 @@ kind_of_term ops variables = fold-Term (Option Kind) (kind_step ops variables)
 abbrev pub depth_step : Term-F ℕ → ℕ
 depth_step (Term-F.Const atom) = 1
 depth_step (Term-F.Var variable) = 1
-depth_step (Term-F.Op op first second) = 1 + max first.value second.value
+depth_step (Term-F.Op op first second) = 1 + max first second
 
 -- how many levels a term has: a constant and a variable have one
 abbrev pub depth_of : Term → ℕ

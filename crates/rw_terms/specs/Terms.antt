@@ -25,7 +25,7 @@ applied code x y = option_and_then (λ code. option_and_then (λ x. option_and_t
 abbrev pub value_step : List OpCode → List Atom → Term-F (Option Atom) → Option Atom
 value_step codes values (Term-F.Const atom) = Some atom
 value_step codes values (Term-F.Var variable) = slice_get values variable
-value_step codes values (Term-F.Op op first second) = applied (slice_get codes op) (number_in first.value) (number_in second.value)
+value_step codes values (Term-F.Op op first second) = applied (slice_get codes op) (number_in first) (number_in second)
 
 -- the value of a term: a constant has itself, a variable its value, an operation what it gives
 abbrev pub value_of : List OpCode → List Atom → Term → Option Atom
@@ -51,7 +51,7 @@ abbrev pub fit_step : List OpCode → List Atom → Term-F Fit → Fit
 fit_step codes values (Term-F.Const atom) = record { fits = true; is_number = is_number atom }
 fit_step codes values (Term-F.Var variable) = fit_of (slice_get values variable)
 fit_step codes values (Term-F.Op op first second) = record {
-  fits = nat_lt op (length codes) && first.value.fits && first.value.is_number && second.value.fits && second.value.is_number;
+  fits = nat_lt op (length codes) && first.fits && first.is_number && second.fits && second.is_number;
   is_number = true;
 }
 

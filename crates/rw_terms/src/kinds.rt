@@ -18,8 +18,8 @@ impl Term {
             Term::Var(variable) => kind_at(variables, *variable),
             Term::Op(op, first, second) => {
                 if (*op as usize) < ops
-                    && is_number_kind(first.kind(variables, ops))
-                    && is_number_kind(second.kind(variables, ops))
+                    && is_number_kind(first.get().kind(variables, ops))
+                    && is_number_kind(second.get().kind(variables, ops))
                 {
                     Some(Kind::Int)
                 } else {
@@ -36,7 +36,7 @@ impl Term {
         match self {
             Term::Const(_) | Term::Var(_) => 1 <= most,
             Term::Op(_, first, second) => {
-                1 <= most && first.is_within(most - 1) && second.is_within(most - 1)
+                1 <= most && first.get().is_within(most - 1) && second.get().is_within(most - 1)
             }
         }
     }

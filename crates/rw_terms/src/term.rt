@@ -7,14 +7,16 @@ ghost use Rattle.rw_terms.specs.Terms.{applied, is_evaluable, number_in, value_o
 
 use crate::{OpTable, Valuation};
 use rw_schema::{Atom, OutOfMemory};
+use sqlite_items::Boxed;
 use std::alloc::Global;
 
-/// A term over atoms: a constant, a variable, or an operation, by its number in a table, on two terms.
+/// A term over atoms: a constant, a variable, or an operation, by its number in a table, on two terms. Each of these is
+/// in a box that contracts see as the term in it.
 #[derive(Drop)]
 pub enum Term {
     Const(Atom),
     Var(u32),
-    Op(u32, Box<Term>, Box<Term>),
+    Op(u32, Boxed<Term>, Boxed<Term>),
 }
 
 /// The value of a term where its variables have these values: nothing exactly where some operation in it gives nothing. The
@@ -32,8 +34,8 @@ pub fn eval(
         Term::Const(atom) => Ok(Some(atom.copy(alloc)?)),
         Term::Var(variable) => Ok(Some(value_at(alloc, valuation, *variable)?)),
         Term::Op(op, first, second) => {
-            let first = eval(alloc, first, valuation, ops)?;
-            let second = eval(alloc, second, valuation, ops)?;
+            let first = eval(alloc, first.get(), valuation, ops)?;
+            let second = eval(alloc, second.get(), valuation, ops)?;
             Ok(applied(ops, *op, first, second))
         }
     }

@@ -5,6 +5,7 @@ ghost use Rattle.rw_terms.specs.OpValues.{op_value};
 
 use crate::*;
 use rw_schema::{Atom, Text};
+use sqlite_items::Boxed;
 use std::test::Fail;
 
 #[test]
@@ -76,10 +77,10 @@ fn evaluates_a_nested_term(rt: HostRuntime) -> Result<(), Fail> {
     values.push(Atom::Int(10))?;
     values.push(Atom::Int(i64::MIN))?;
     let valuation = Valuation::of(values);
-    let first = Box::new(alloc, Term::Var(0))?;
-    let three = Box::new(alloc, Term::Const(Atom::Int(3)))?;
-    let seven = Box::new(alloc, Term::Op(0, first, three))?;
-    let two = Box::new(alloc, Term::Const(Atom::Int(2)))?;
+    let first = Boxed::new(alloc, Term::Var(0))?;
+    let three = Boxed::new(alloc, Term::Const(Atom::Int(3)))?;
+    let seven = Boxed::new(alloc, Term::Op(0, first, three))?;
+    let two = Boxed::new(alloc, Term::Const(Atom::Int(2)))?;
     let term = Term::Op(0, seven, two);
     assert!(rt; eval(alloc, &term, &valuation, &ops)? == Some(Atom::Int(5)));
     Ok(())
