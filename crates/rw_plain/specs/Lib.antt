@@ -1,3 +1,4 @@
 pub mod Obstructions
 pub mod PlainStep
 pub mod RuleParts
+pub mod SetValues

@@ -5,12 +5,14 @@ use Rattle.rw_schema.specs.First.{or_else, first_in, fault_unless}
 use Rattle.rw_schema.specs.RowLists.{RowLists}
 use Rattle.rw_schema.specs.Signature.{Signature}
 use Rattle.rw_spec.specs.Instance.{Instance, instance_of}
+use Rattle.rw_terms.specs.declared.code.OpCode.{OpCode}
 use Rattle.rw_rule.specs.RuleLists.{RuleLists}
 use Rattle.rw_rule.specs.declared.refusal.Refusal.{Refusal}
 use Rattle.rw_rule.specs.declared.refusal.Refusal.TheVariants.{Dangling, TooLarge}
 use Rattle.rw_plain.specs.declared.verdict.Verdict.{Verdict}
 use Rattle.rw_plain.specs.declared.verdict.Verdict.TheVariants.{Ready, Refused}
 use Rattle.rw_plain.specs.PlainStep.{is_matched, is_removed, next_after, rows_after}
+use Rattle.rw_plain.specs.SetValues.{no_value}
 
 -- the greatest next name
 abbrev pub most_names : ℕ
@@ -35,12 +37,15 @@ abbrev pub too_large : RuleLists → List ℕ → Option Refusal
 too_large rule next =
     first_in (λ object name. fault_unless (nat_le (next_after rule next object) most_names) (TooLarge (record { 0 = object }))) 0 next
 
--- the first obstruction
-abbrev pub obstruction : Signature → RuleLists → List ℕ → RowLists → Option Refusal
-obstruction C rule tuple rows = or_else (dangling C rule tuple (instance_of C rows)) (too_large rule rows.next)
+-- the first obstruction: an arrow that dangles, a set without a value, or too many names
+abbrev pub obstruction : Signature → List OpCode → RuleLists → List ℕ → RowLists → Option Refusal
+obstruction C codes rule tuple rows =
+    or_else (dangling C rule tuple (instance_of C rows))
+    (or_else (no_value C codes rule tuple (instance_of C rows))
+    (too_large rule rows.next))
 
 -- the verdict on a match: the first obstruction where there is one, else the instance after the step
-abbrev pub IsVerdict : Signature → RuleLists → List ℕ → RowLists → Verdict → Type 0
-IsVerdict C rule tuple rows (Ready after) =
-    (obstruction C rule tuple rows ≡ None) × (after ≡ record { signature = C; rows = rows_after C rule tuple rows })
-IsVerdict C rule tuple rows (Refused refusal) = obstruction C rule tuple rows ≡ Some refusal
+abbrev pub IsVerdict : Signature → List OpCode → RuleLists → List ℕ → RowLists → Verdict → Type 0
+IsVerdict C codes rule tuple rows (Ready after) =
+    (obstruction C codes rule tuple rows ≡ None) × (after ≡ record { signature = C; rows = rows_after C codes rule tuple rows })
+IsVerdict C codes rule tuple rows (Refused refusal) = obstruction C codes rule tuple rows ≡ Some refusal

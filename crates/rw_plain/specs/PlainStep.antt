@@ -1,22 +1,19 @@
 -- The step of a plain double-pushout rule at a match, said part by part. L, K and R are the left, the kept and the right
 -- pattern, l and r the maps from K; X is the instance before, with one next name for each object; the match is a tuple.
-use Rattle.std.specs.Prelude.{◌==◌, ℕ, ◌+◌, ◌-◌, Bool, not, ◌&&◌, nat_lt, length, map, filter, List, ◌++◌, Option, Some, None, slice_index, position, if◌then◌else◌}
+use Rattle.std.specs.Prelude.{◌==◌, ℕ, ◌+◌, ◌-◌, Bool, not, ◌&&◌, nat_lt, length, map, filter, find, List, ◌++◌, Option, Some, None, slice_index, position, if◌then◌else◌}
 use Rattle.std.specs.List.{list_any, range_with_len}
+use Rattle.rw_schema.specs.declared.atom.Atom.{Atom}
 use Rattle.rw_schema.specs.RowLists.{RowLists, list_at}
 use Rattle.rw_schema.specs.Signature.{Signature, source_of}
 use Rattle.rw_spec.specs.Ends.{target_of}
 use Rattle.rw_spec.specs.Instance.{Instance, instance_of, lists_of}
 use Rattle.rw_pattern.specs.MapFaults.{image_of}
-use Rattle.rw_pattern.specs.PatternLists.{PatternLists, size_of, map_of_tuple}
+use Rattle.rw_pattern.specs.PatternLists.{holder, map_of_tuple}
+use Rattle.rw_terms.specs.declared.code.OpCode.{OpCode}
+use Rattle.rw_rule.specs.Images.{is_image, parts_of}
 use Rattle.rw_rule.specs.RuleLists.{RuleLists}
-
--- the parts of an object
-abbrev pub parts_of : PatternLists → ℕ → List ℕ
-parts_of pattern object = range_with_len 0 (size_of pattern object)
-
--- the part is the image of a part
-abbrev pub is_image : List (List ℕ) → ℕ → ℕ → Bool
-is_image images object part = list_any (λ image. image == part) (list_at images object)
+use Rattle.rw_rule.specs.declared.set.SetCell.{SetCell}
+use Rattle.rw_plain.specs.SetValues.{set_value}
 
 -- the match gives the name to a part of L
 abbrev pub is_matched : RuleLists → List ℕ → ℕ → ℕ → Bool
@@ -67,15 +64,30 @@ value_after C rule tuple X next arrow name =
     else name_of_right rule tuple next (target_of C arrow)
     (slice_index (list_at rule.right.rows arrow) (part_of_name rule next (source_of C arrow) name))
 
+-- after the step, the name is that of the part on whose cell of the attribute the set is
+abbrev pub sets_cell : RuleLists → List ℕ → List ℕ → ℕ → ℕ → SetCell → Bool
+sets_cell rule tuple next attr name set =
+    set.attr.0 == attr && name_of_right rule tuple next (holder rule.right attr) set.part == name
+
+-- the value of the set, or what the cell held where there is none
+abbrev pub cell_from : List OpCode → RuleLists → List ℕ → Instance → Option Atom → Option SetCell → Option Atom
+cell_from codes rule tuple X held None = held
+cell_from codes rule tuple X held (Some set) = set_value codes rule tuple X set
+
+-- the cell of an attribute after the step: a set cell has the value of its set, and each other cell of an earlier name stays
+abbrev pub cell_after : List OpCode → RuleLists → List ℕ → Instance → List ℕ → ℕ → ℕ → Option Atom
+cell_after codes rule tuple X next attr name =
+    cell_from codes rule tuple X (X.cell attr name) (find (sets_cell rule tuple next attr name) rule.sets)
+
 -- the instance after the step
-abbrev pub instance_after : Signature → RuleLists → List ℕ → Instance → List ℕ → Instance
-instance_after C rule tuple X next = record {
+abbrev pub instance_after : Signature → List OpCode → RuleLists → List ℕ → Instance → List ℕ → Instance
+instance_after C codes rule tuple X next = record {
   names = names_after rule tuple X next;
   value = value_after C rule tuple X next;
-  cell = X.cell;
+  cell = cell_after codes rule tuple X next;
 }
 
 -- the lists after the step
-abbrev pub rows_after : Signature → RuleLists → List ℕ → RowLists → RowLists
-rows_after C rule tuple rows =
-    lists_of C (instance_after C rule tuple (instance_of C rows) rows.next) (map (next_after rule rows.next) (range_with_len 0 C.objects))
+abbrev pub rows_after : Signature → List OpCode → RuleLists → List ℕ → RowLists → RowLists
+rows_after C codes rule tuple rows =
+    lists_of C (instance_after C codes rule tuple (instance_of C rows) rows.next) (map (next_after rule rows.next) (range_with_len 0 C.objects))

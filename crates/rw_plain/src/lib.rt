@@ -1,4 +1,4 @@
-//! The step of a double-pushout rule whose maps are injective, at an injective match, over a schema without attributes.
+//! The step of a double-pushout rule whose maps are injective, at an injective match.
 #![tactic(auto)]
 
 mod dangling;

@@ -1,11 +1,13 @@
 //! The step.
 
-ghost use Rattle.std.specs.Prelude.{◌≡◌, IfOk, true, None, Contains};
+ghost use Rattle.std.specs.Prelude.{◌≡◌, IfOk, true, None, Contains, length};
 ghost use Rattle.rw_schema.specs.Presentation.{signature_of};
 ghost use Rattle.rw_table.specs.Tabled.{IsOver, instance_of_table};
 ghost use Rattle.rw_table.specs.TableFaults.{table_fault};
 ghost use Rattle.rw_pattern.specs.Matches.{matches};
 ghost use Rattle.rw_rule.specs.RuleFaults.{IsRuleOver};
+ghost use Rattle.rw_terms.specs.OpEntries.{entries};
+ghost use Rattle.rw_terms.specs.OpTables.{codes_of};
 ghost use Rattle.rw_plain.specs.Obstructions.{IsVerdict};
 ghost use Rattle.rw_rule.specs.PlainRules.{is_plain};
 
@@ -17,11 +19,14 @@ use rw_pattern::Tuple;
 use rw_rule::Rule;
 use rw_schema::{OutOfMemory, Rows, Schema};
 use rw_table::{Table, TableFault};
+use rw_terms::OpTable;
 use std::alloc::Global;
 
 /// Applies a plain double-pushout rule at a match, or gives the first obstruction. The table stays as it is; the
 /// instance after the step is made anew. Names of parts that stay are kept, each new part takes the next name of its
-/// object, and a name is never used again. The equations of the schema, which hold before the step, hold after it.
+/// object, and a name is never used again. A cell that the rule sets has the value of its term, and every other cell
+/// of a part that stays is kept. The equations of the schema, which hold before the step, hold after it. The operations
+/// of the rule's terms are those of the table, by their numbers.
 ///
 /// Ehrig, Pfender and Schneider, "Graph-grammars: an algebraic approach" (1973), define the step by two pushouts; where
 /// both maps and the match are injective it is this one.
@@ -31,12 +36,13 @@ pub fn try_match(
     rule: &Rule,
     table: &Table,
     tuple: &Tuple,
+    ops: &OpTable,
 ) -> Result<Verdict, OutOfMemory>
     requires table { IsOver schema.now table.now }
-    requires rule { IsRuleOver (signature_of schema.now) rule.now }
-    requires plain { is_plain (signature_of schema.now) rule.now ≡ true }
+    requires rule { IsRuleOver (signature_of schema.now) (length (entries ops.now)) rule.now }
+    requires plain { is_plain rule.now ≡ true }
     requires tuple { Contains (matches (signature_of schema.now) rule.now.goal.left rule.now.goal.monic (instance_of_table table.now)) tuple.now }
-    ensures { IfOk result (IsVerdict (signature_of schema.now) rule.now tuple.now table.now.rows) }
+    ensures { IfOk result (IsVerdict (signature_of schema.now) (codes_of (entries ops.now)) rule.now tuple.now table.now.rows) }
 {
     if let Some(refusal) = first_dangling(schema, rule, table, tuple) {
         return Ok(Verdict::Refused(refusal));
