@@ -31,7 +31,7 @@ fn holder_parts(schema: &Schema, parts: &[u32], attribute: AttrId) -> u32
 }
 
 /// Whether the atom is no text that is too long.
-fn has_text_length(atom: &Atom) -> bool
+pub fn has_text_length(atom: &Atom) -> bool
     ensures { result ≡ is_short atom.now }
 {
     match atom {

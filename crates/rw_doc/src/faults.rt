@@ -35,7 +35,7 @@ pub(crate) fn refused_at(code: u8, section: Section, first: u32, second: u32) ->
 }
 
 /// The end of a reading at a section's list or object itself.
-pub(crate) fn refused_of(code: u8, section: Section) -> ReadDocEnd
+pub fn refused_of(code: u8, section: Section) -> ReadDocEnd
     ensures { result ≡ Refused (spec.fault_of code section) }
 {
     ReadDocEnd::Refused(fault_of(code, section))

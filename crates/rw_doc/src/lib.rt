@@ -17,8 +17,12 @@ mod paths;
 mod rows;
 mod schema;
 
+pub use cells::has_text_length;
 pub use end::ReadDocEnd;
 pub use fault::DocFault;
+pub use faults::refused_of;
 pub use instance::{empty_instance, read_instance};
 pub use json::{atom_of, count_of, has_only};
+pub use lists::{items_of, read_list_or_none};
+pub use objects::has_name_length;
 pub use schema::read_schema;

@@ -13,7 +13,7 @@ use rw_schema::Section;
 use serde_json::Value;
 
 /// The items of an array.
-pub(crate) fn items_of(value: &Value) -> Option<&[Value]>
+pub fn items_of(value: &Value) -> Option<&[Value]>
     ensures { option_map (λ items. map view items.now) result ≡ as_list (view value.now) }
 {
     match value.as_array() {
@@ -42,7 +42,7 @@ pub(crate) fn read_list(
 }
 
 /// The items of a section that may be absent.
-pub(crate) fn read_list_or_none(
+pub fn read_list_or_none(
     section: Section,
     most: usize,
     value: Option<&Value>,

@@ -17,7 +17,7 @@ use serde_json::Value;
 use std::alloc::Global;
 
 /// Whether the text has the length of a name.
-pub(crate) fn has_name_length(name: &str) -> bool
+pub fn has_name_length(name: &str) -> bool
     ensures { result ≡ is_name name.now }
 {
     1 <= name.len() && name.len() <= LONGEST_NAME

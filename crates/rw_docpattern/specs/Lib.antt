@@ -1,0 +1,10 @@
+pub mod Forms
+pub mod Maps
+pub mod Numbers
+pub mod Objects
+pub mod Patterns
+pub mod Pieces
+pub mod Reads
+pub mod Sets
+pub mod Terms
+pub mod Variables

@@ -1,0 +1,18 @@
+//! Patterns, maps and sets of rules and watches that are read from JSON, each with its exact first fault.
+#![tactic(auto)]
+
+mod entry;
+mod maps;
+mod objects;
+mod patterns;
+mod piece;
+mod sets;
+mod term;
+
+pub use entry::{Entry, WrittenEntry};
+pub use maps::read_map;
+pub use objects::{marks_named, texts_or_none};
+pub use patterns::{PatternRead, read_bare_pattern, read_pattern};
+pub use piece::Piece;
+pub use sets::{RightRead, read_right};
+pub use term::WrittenTerm;
