@@ -1,8 +1,5 @@
 pub mod Documents
+pub mod Heads
 pub mod Models
-pub mod Numbering
-pub mod Patterns
-pub mod Readings
 pub mod Rules
-pub mod Variables
 pub mod Watches

@@ -1,5 +1,5 @@
 -- What a document says, as contracts see it.
-use Rattle.std.specs.Prelude.{◌≡◌, ◌≤◌, true, List, map, length}
+use Rattle.std.specs.Prelude.{◌≡◌, ◌≤◌, ℕ, true, List, [], map, length}
 use Rattle.std.specs.List.{All}
 use Rattle.rw_schema.specs.Presentation.{Presentation, signature_of}
 use Rattle.rw_table.specs.Tabled.{Tabled, IsOver}
@@ -23,12 +23,13 @@ document_lists document = record {
   watches = map lists_of_watch document.watches.items;
 }
 
--- the table is over the schema, and so is each rule and each watch; each rule is one whose steps are built so far; there
--- are at most 256 rules and 64 watches
-pub record IsSound (document : DocumentLists) : Type 0 where
+-- the table is over the schema, and so is each rule and each watch; the rules' terms have operations below this number, and
+-- each rule is one whose steps are built so far; there are at most 256 rules and 64 watches
+pub record IsSound (ops : ℕ) (document : DocumentLists) : Type 0 where
   pub table : IsOver document.schema document.table
-  pub rules : All (IsRuleOver (signature_of document.schema)) document.rules
-  pub plain : All (λ rule. is_plain (signature_of document.schema) rule ≡ true) document.rules
+  pub rules : All (IsRuleOver (signature_of document.schema) ops) document.rules
+  pub plain : All (λ rule. is_plain rule ≡ true) document.rules
   pub watches : All (λ (watch : WatchLists). IsGoalOver (signature_of document.schema) watch.goal) document.watches
+  pub free : All (λ (watch : WatchLists). watch.goal.conditions ≡ []) document.watches
   pub few_rules : length document.rules ≤ 256
   pub few_watches : length document.watches ≤ 64

@@ -1,66 +1,89 @@
--- The rules of a document, of the form that is read so far: double-pushout rules without cells and conditions, over a schema
--- without attributes, whose maps and matches are injective.
-use Rattle.std.specs.Prelude.{ℕ, Bool, not, is_none, take, codes, List, [], ◌∷◌, Option, Some, None, Result, Ok}
-use Rattle.std.specs.List.{list_any}
-use Rattle.std.specs.Str.{bytes_eq}
+-- The rules of a document, or the first fault. The pieces of a rule are read in this order: its own keys, the left, the kept
+-- and the right pattern, and the maps to the left and to the right.
+use Rattle.std.specs.Prelude.{ℕ, Bool, ◌||◌, is_none, is_some, length, map, List, [], Option, Result, Ok}
 use Rattle.serde_json.specs.Data.{Data}
-use Rattle.rw_schema.specs.First.{all_in}
+use Rattle.rw_schema.specs.declared.section.Section.TheVariants as sections
 use Rattle.rw_schema.specs.Presentation.{Presentation, signature_of}
-use Rattle.rw_schema.specs.Signature.{Signature}
-use Rattle.rw_rule.specs.PlainRules.{is_plain}
-use Rattle.rw_rule.specs.RuleFaults.{rule_fault}
-use Rattle.rw_rule.specs.RuleLists.{GoalLists, RuleLists}
+use Rattle.rw_pattern.specs.PatternLists.{PatternLists}
+use Rattle.rw_terms.specs.OpTables.{OpEntry}
 use Rattle.rw_rule.specs.declared.kind.RuleKind.{RuleKind}
-use Rattle.rw_rule.specs.declared.kind.RuleKind.TheVariants.{Dpo}
+use Rattle.rw_rule.specs.Images.{is_injective}
+use Rattle.rw_rule.specs.RuleFaults.{is_sqpo}
+use Rattle.rw_rule.specs.RuleLists.{RuleLists}
+use Rattle.rw_rule.specs.Sets.{value_missing}
 use Rattle.rw_doc.specs.declared.fault.DocFault.{DocFault}
-use Rattle.rw_doc.specs.Chain.{and_then, each_in, checked}
-use Rattle.rw_docrule.specs.Patterns.{plain_pattern_at, map_at, read_monic}
-use Rattle.rw_docrule.specs.Readings.{not_built, with_keys, needed, read_text, read_at_most, read_name}
+use Rattle.rw_doc.specs.Chain.{and_then, each_after, some_or, checked}
+use Rattle.rw_doc.specs.Schemas.{read_list_or_none}
+use Rattle.rw_docpattern.specs.declared.piece.Piece.{Piece}
+use Rattle.rw_docpattern.specs.Maps.{read_map}
+use Rattle.rw_docpattern.specs.Patterns.{PatternRead, read_bare_pattern, read_pattern}
+use Rattle.rw_docpattern.specs.Pieces.{fault_in}
+use Rattle.rw_docpattern.specs.Sets.{RightRead, read_right}
+use Rattle.rw_docrule.specs.Heads.{RuleHead, RuleMembers, read_rule_head, rule_members}
 
-abbrev pub rule_keys : List (List ℕ)
-rule_keys = codes "keep" ∷ codes "kind" ∷ codes "l" ∷ codes "left" ∷ codes "monic" ∷ codes "name" ∷ codes "r" ∷ codes "right" ∷ []
+-- a piece of a rule
+abbrev pub rule_piece : ℕ → ℕ → Piece
+rule_piece rule piece = record { section = sections.Rules; first = rule; second = piece }
 
--- the one kind that is read so far
-abbrev pub read_kind : Data → Result RuleKind DocFault
-read_kind value = and_then (needed (codes "kind") value) (λ value.
-    and_then (read_text value) (λ word. checked not_built (bytes_eq word (codes "dpo")) (Ok Dpo)))
+-- a rule, and whether conditions are written, which are not read yet
+pub record RuleRead : Type 0 where
+  pub rule : RuleLists
+  pub has_conditions : Bool
 
--- the left side and the monic objects; there are no variables so far
-abbrev pub read_goal : Presentation → Data → Result GoalLists DocFault
-read_goal schema value = and_then (plain_pattern_at (signature_of schema) (codes "left") value) (λ left.
-    and_then (read_monic schema.objects value) (λ monic. Ok (record { left = left; monic = monic; kinds = [] })))
+-- the three patterns of a rule
+pub record Sides : Type 0 where
+  pub left : PatternRead
+  pub keep : PatternLists
+  pub right : RightRead
 
--- the rule itself, where its steps are built so far
-abbrev pub plain_rule : Signature → RuleLists → Result RuleLists DocFault
-plain_rule C rule = checked not_built (is_plain C rule) (Ok rule)
+abbrev pub read_sides : Presentation → List OpEntry → ℕ → RuleMembers → Result Sides DocFault
+read_sides schema ops place members = and_then (read_pattern schema (rule_piece place 1) members.left) (λ left.
+    and_then (read_bare_pattern schema (rule_piece place 2) members.keep) (λ keep.
+    and_then (read_right schema ops (rule_piece place 3) left members.right) (λ right.
+    Ok (record { left = left; keep = keep; right = right }))))
 
--- the rule of the lists, where they are one that is built so far
-abbrev pub rule_of : Signature → RuleLists → Result RuleLists DocFault
-rule_of C rule = checked not_built (is_none (rule_fault C rule)) (plain_rule C rule)
+-- the map to the left, which is injective but in a sesqui-pushout rule: code 12 besides those of a map
+abbrev pub read_l : Presentation → ℕ → RuleKind → Sides → RuleMembers → Result (List (List ℕ)) DocFault
+read_l schema place kind sides members =
+    and_then (read_map (signature_of schema) (rule_piece place 4) sides.keep sides.left.pattern members.l) (λ images.
+    checked (fault_in (rule_piece place 4) 12) (is_sqpo kind || is_injective sides.keep images) (Ok images))
 
-abbrev pub read_rule : Presentation → Data → Result RuleLists DocFault
-read_rule schema value = and_then (with_keys rule_keys value) (λ value. and_then (read_name value) (λ name. and_then (read_kind value) (λ kind.
-    and_then (read_goal schema value) (λ goal.
-    and_then (plain_pattern_at (signature_of schema) (codes "keep") value) (λ keep. and_then (plain_pattern_at (signature_of schema) (codes "right") value) (λ right.
-    and_then (map_at (signature_of schema) (codes "l") value) (λ l. and_then (map_at (signature_of schema) (codes "r") value) (λ r.
-    rule_of (signature_of schema) (record { name = name; kind = kind; goal = goal; keep = keep; right = right; l = l; r = r })))))))))
+-- the lists of a rule
+abbrev pub rule_with : RuleHead → Sides → List (List ℕ) → List (List ℕ) → RuleLists
+rule_with head sides l r = record {
+  name = head.name;
+  kind = head.kind;
+  goal = record { left = sides.left.pattern; monic = head.monic; conditions = []; kinds = sides.left.kinds };
+  keep = sides.keep;
+  right = sides.right.pattern;
+  sets = sides.right.sets;
+  l = l;
+  r = r;
+}
 
--- no rule has the name
-abbrev pub is_no_rule : List RuleLists → List ℕ → Bool
-is_no_rule rules name = not (list_any (λ (rule : RuleLists). bytes_eq name rule.name) rules)
+-- the map to the right; each attribute of a new part is set: code 14 besides those of a map
+abbrev pub read_r : Presentation → ℕ → RuleHead → Sides → List (List ℕ) → RuleMembers → Result RuleLists DocFault
+read_r schema place head sides l members =
+    and_then (read_map (signature_of schema) (rule_piece place 5) sides.keep sides.right.pattern members.r) (λ r.
+    checked (fault_in (rule_piece place 5) 14) (is_none (value_missing (signature_of schema) (rule_with head sides l r))) (Ok (rule_with head sides l r)))
 
--- no rule before the place has the rule's name
-abbrev pub is_new_rule : List RuleLists → ℕ → RuleLists → Bool
-is_new_rule rules place rule = is_no_rule (take place rules) rule.name
+abbrev pub read_pieces : Presentation → List OpEntry → List (List ℕ) → ℕ → RuleMembers → Result RuleRead DocFault
+read_pieces schema ops taken place members =
+    and_then (read_rule_head schema.objects taken (rule_piece place 0) members) (λ head.
+    and_then (read_sides schema ops place members) (λ sides.
+    and_then (read_l schema place head.kind sides members) (λ l.
+    and_then (read_r schema place head sides l members) (λ rule.
+    Ok (record { rule = rule; has_conditions = is_some members.conditions })))))
 
--- no rule has the name of an earlier one
-abbrev pub are_rules_apart : List RuleLists → Bool
-are_rules_apart rules = all_in (is_new_rule rules) 0 rules
+-- the names of rules
+abbrev pub names_of_rules : List RuleRead → List (List ℕ)
+names_of_rules rules = map (λ (read : RuleRead). read.rule.name) rules
 
-abbrev pub read_rules : Presentation → Data → Result (List RuleLists) DocFault
-read_rules schema value = and_then (read_at_most 256 value) (λ items.
-    and_then (each_in (λ place. read_rule schema) 0 items) (λ rules. checked not_built (are_rules_apart rules) (Ok rules)))
+-- the rule behind these
+abbrev pub read_rule : Presentation → List OpEntry → List RuleRead → Data → Result RuleRead DocFault
+read_rule schema ops before value = and_then (some_or (fault_in (rule_piece (length before) 0) 2) (rule_members value))
+    (read_pieces schema ops (names_of_rules before) (length before))
 
-abbrev pub rules_or_none : Presentation → Option Data → Result (List RuleLists) DocFault
-rules_or_none schema None = Ok []
-rules_or_none schema (Some value) = read_rules schema value
+-- the rules that are written, at most 256
+abbrev pub read_rules : Presentation → List OpEntry → Option Data → Result (List RuleRead) DocFault
+read_rules schema ops value = and_then (read_list_or_none sections.Rules 256 value) (each_after (read_rule schema ops) [])

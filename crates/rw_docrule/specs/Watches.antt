@@ -1,39 +1,37 @@
--- The watches of a document.
-use Rattle.std.specs.Prelude.{ℕ, Bool, not, ◌&&◌, take, codes, List, [], ◌∷◌, Option, Some, None, Result, Ok}
-use Rattle.std.specs.List.{list_any}
-use Rattle.std.specs.Str.{bytes_eq}
+-- The watches of a document, or the first fault. The pieces of a watch are its own keys, and its pattern.
+use Rattle.std.specs.Prelude.{ℕ, length, map, List, [], ◌++◌, Option, Result, Ok}
 use Rattle.serde_json.specs.Data.{Data}
-use Rattle.rw_schema.specs.First.{all_in}
+use Rattle.rw_schema.specs.declared.section.Section.TheVariants as sections
 use Rattle.rw_schema.specs.Presentation.{Presentation}
-use Rattle.rw_rule.specs.RuleLists.{RuleLists, WatchLists}
+use Rattle.rw_rule.specs.RuleLists.{WatchLists}
 use Rattle.rw_doc.specs.declared.fault.DocFault.{DocFault}
-use Rattle.rw_doc.specs.Chain.{and_then, each_in, checked}
-use Rattle.rw_docrule.specs.Patterns.{read_pattern, read_monic}
-use Rattle.rw_docrule.specs.Readings.{not_built, with_keys, needed, read_at_most, read_name}
-use Rattle.rw_docrule.specs.Rules.{is_no_rule}
+use Rattle.rw_doc.specs.Chain.{and_then, each_after, some_or}
+use Rattle.rw_doc.specs.Schemas.{read_list_or_none}
+use Rattle.rw_docpattern.specs.declared.piece.Piece.{Piece}
+use Rattle.rw_docpattern.specs.Patterns.{read_pattern}
+use Rattle.rw_docpattern.specs.Pieces.{fault_in}
+use Rattle.rw_docrule.specs.Heads.{WatchMembers, read_watch_head, watch_members}
 
-abbrev pub watch_keys : List (List ℕ)
-watch_keys = codes "monic" ∷ codes "name" ∷ codes "pattern" ∷ []
+-- a piece of a watch
+abbrev pub watch_piece : ℕ → ℕ → Piece
+watch_piece watch piece = record { section = sections.Watches; first = watch; second = piece }
 
-abbrev pub read_watch : Presentation → Data → Result WatchLists DocFault
-read_watch schema value = and_then (with_keys watch_keys value) (λ value. and_then (read_name value) (λ name.
-    and_then (needed (codes "pattern") value) (λ written. and_then (read_pattern schema written) (λ read.
-    and_then (read_monic schema.objects value) (λ monic.
-    Ok (record { name = name; goal = record { left = read.pattern; monic = monic; kinds = read.kinds } }))))))
+-- the pieces of a watch, where these names are taken
+abbrev pub read_watch_pieces : Presentation → List (List ℕ) → ℕ → WatchMembers → Result WatchLists DocFault
+read_watch_pieces schema taken place members =
+    and_then (read_watch_head schema.objects taken (watch_piece place 0) members) (λ head.
+    and_then (read_pattern schema (watch_piece place 1) members.pattern) (λ read.
+    Ok (record { name = head.name; goal = record { left = read.pattern; monic = head.monic; conditions = []; kinds = read.kinds } })))
 
--- no rule and no watch before the place has the watch's name
-abbrev pub is_new_watch : List RuleLists → List WatchLists → ℕ → WatchLists → Bool
-is_new_watch rules watches place watch =
-    is_no_rule rules watch.name && not (list_any (λ (other : WatchLists). bytes_eq watch.name other.name) (take place watches))
+-- the names of watches
+abbrev pub names_of_watches : List WatchLists → List (List ℕ)
+names_of_watches watches = map (λ (watch : WatchLists). watch.name) watches
 
--- no watch has the name of a rule or of an earlier watch
-abbrev pub are_watches_apart : List RuleLists → List WatchLists → Bool
-are_watches_apart rules watches = all_in (is_new_watch rules watches) 0 watches
+-- the watch behind these; rules and watches share one list of names
+abbrev pub read_watch : Presentation → List (List ℕ) → List WatchLists → Data → Result WatchLists DocFault
+read_watch schema rules before value = and_then (some_or (fault_in (watch_piece (length before) 0) 2) (watch_members value))
+    (read_watch_pieces schema (rules ++ names_of_watches before) (length before))
 
-abbrev pub read_watches : Presentation → List RuleLists → Data → Result (List WatchLists) DocFault
-read_watches schema rules value = and_then (read_at_most 64 value) (λ items.
-    and_then (each_in (λ place. read_watch schema) 0 items) (λ watches. checked not_built (are_watches_apart rules watches) (Ok watches)))
-
-abbrev pub watches_or_none : Presentation → List RuleLists → Option Data → Result (List WatchLists) DocFault
-watches_or_none schema rules None = Ok []
-watches_or_none schema rules (Some value) = read_watches schema rules value
+-- the watches that are written, at most 64; these are the names of the rules
+abbrev pub read_watches : Presentation → List (List ℕ) → Option Data → Result (List WatchLists) DocFault
+read_watches schema rules value = and_then (read_list_or_none sections.Watches 64 value) (each_after (read_watch schema rules) [])

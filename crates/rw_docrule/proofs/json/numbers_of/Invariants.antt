@@ -1,7 +1,0 @@
--- All that is read is what was read so far, with what is read of the items that are left.
-use Rattle.rw_docrule.specs.Readings as spec
-use Rattle.rw_doc.proofs.Readings.{ReadSo}
-use Rattle.rw_docrule.proofs.json.numbers_of.Given as goal
-
-abbrev pub invariant-loop-item : goal.invariant-loop-item
-invariant-loop-item l = ReadSo spec.read_number l.items l.item-index l.numbers.items
