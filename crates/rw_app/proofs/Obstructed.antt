@@ -1,18 +1,22 @@
 -- What an obstruction names.
-use Rattle.std.proofs.Common.{◌≡◌, ℕ, ◌+◌, ◌<◌, Bool, true, false, not, nat_le, Option, Some, None, List, [], ◌∷◌, length, map, subst, arith}
+use Rattle.std.proofs.Common.{◌≡◌, ◌==◌, ℕ, ◌+◌, ◌<◌, Bool, true, false, not, ◌&&◌, nat_le, Option, Some, None, List, [], ◌∷◌, length, map, subst, arith}
 use Rattle.std.specs.List.{All}
 use Rattle.std.proofs.lemmas.List.{length-map}
 use Rattle.std.proofs.lemmas.List.Elements.{All-weaker}
 use Rattle.rw_schema.specs.declared.signature.ArrowEnds.{ArrowEnds}
+use Rattle.rw_schema.specs.declared.signature.AttrEnds.{AttrEnds}
 use Rattle.rw_schema.specs.First.{or_else, first_in, fault_unless}
-use Rattle.rw_schema.specs.Presentation.{Presentation, signature_of, ends_of_arrow}
+use Rattle.rw_schema.specs.Presentation.{Presentation, signature_of, ends_of_arrow, ends_of_attribute}
 use Rattle.rw_schema.specs.RowLists.{RowLists}
 use Rattle.rw_spec.specs.Instance.{Instance, instance_of}
+use Rattle.rw_terms.specs.declared.code.OpCode.{OpCode}
+use Rattle.rw_rule.specs.Images.{parts_of}
 use Rattle.rw_rule.specs.RuleLists.{RuleLists}
 use Rattle.rw_rule.specs.declared.refusal.Refusal.{Refusal}
-use Rattle.rw_rule.specs.declared.refusal.Refusal.TheVariants.{Dangling, TooLarge}
+use Rattle.rw_rule.specs.declared.refusal.Refusal.TheVariants.{Dangling, NoValue, TooLarge}
 use Rattle.rw_plain.specs.Obstructions.{most_names, dangles, dangling_at, dangling, too_large, obstruction}
 use Rattle.rw_plain.specs.PlainStep.{next_after}
+use Rattle.rw_plain.specs.SetValues.{lacks_value, no_value, no_value_on}
 use Rattle.rw_print.specs.Lines.{IsKnown}
 use Rattle.rw_app.specs.Runs.{AreRefused}
 
@@ -63,17 +67,38 @@ too_large_known schema rule next refusal each found =
     first_holds (IsKnown schema) (λ object name. fault_unless (test object) (fault object)) 0 next refusal
     (λ object name within here. unless_holds (IsKnown schema) (test object) (fault object) refusal (omega arith) here) found
 
--- an obstruction names an arrow or an object of the schema
-obstruction_known : (schema : Presentation) (rule : RuleLists) (tuple : List ℕ) (rows : RowLists) (refusal : Refusal)
-    → length rows.next ≡ length schema.objects → obstruction (signature_of schema) rule tuple rows ≡ Some refusal → IsKnown schema refusal
-obstruction_known schema rule tuple rows refusal each found =
+-- an attribute whose set has no value is one of the schema
+no_value_on_known : (schema : Presentation) (codes : List OpCode) (rule : RuleLists) (tuple : List ℕ) (X : Instance) (holder part : ℕ) (refusal : Refusal)
+    → no_value_on (signature_of schema) codes rule tuple X holder part ≡ Some refusal → IsKnown schema refusal
+no_value_on_known schema codes rule tuple X holder part refusal found =
+    let attributes : length (map ends_of_attribute schema.attributes) ≡ length schema.attributes = length-map schema.attributes ends_of_attribute in
+    let test : ℕ → AttrEnds → Bool = λ attr ends. not (ends.object.0 == holder && lacks_value codes rule tuple X attr part) in
+    let fault : ℕ → Refusal = λ attr. NoValue part (record { 0 = attr }) in
+    first_holds (IsKnown schema) (λ attr ends. fault_unless (test attr ends) (fault attr)) 0 (map ends_of_attribute schema.attributes) refusal
+    (λ attr ends within here. unless_holds (IsKnown schema) (test attr ends) (fault attr) refusal (omega arith) here) found
+
+-- and so is the first
+no_value_known : (schema : Presentation) (codes : List OpCode) (rule : RuleLists) (tuple : List ℕ) (X : Instance) (refusal : Refusal)
+    → no_value (signature_of schema) codes rule tuple X ≡ Some refusal → IsKnown schema refusal
+no_value_known schema codes rule tuple X refusal found =
+    first_holds (IsKnown schema) (λ holder size. first_in (λ place part. no_value_on (signature_of schema) codes rule tuple X holder part) 0 (parts_of rule.right holder)) 0 rule.right.sizes refusal
+    (λ holder size inside there. first_holds (IsKnown schema) (λ place part. no_value_on (signature_of schema) codes rule tuple X holder part) 0 (parts_of rule.right holder) refusal
+    (λ place part within here. no_value_on_known schema codes rule tuple X holder part refusal here) there) found
+
+-- an obstruction names an arrow, an attribute or an object of the schema
+obstruction_known : (schema : Presentation) (codes : List OpCode) (rule : RuleLists) (tuple : List ℕ) (rows : RowLists) (refusal : Refusal)
+    → length rows.next ≡ length schema.objects → obstruction (signature_of schema) codes rule tuple rows ≡ Some refusal → IsKnown schema refusal
+obstruction_known schema codes rule tuple rows refusal each found =
     let X : Instance = instance_of (signature_of schema) rows in
-    or_else_holds (IsKnown schema) (dangling (signature_of schema) rule tuple X) (too_large rule rows.next) refusal
-    (dangling_known schema rule tuple X refusal) (too_large_known schema rule rows.next refusal each) found
+    or_else_holds (IsKnown schema) (dangling (signature_of schema) rule tuple X)
+    (or_else (no_value (signature_of schema) codes rule tuple X) (too_large rule rows.next)) refusal
+    (dangling_known schema rule tuple X refusal)
+    (or_else_holds (IsKnown schema) (no_value (signature_of schema) codes rule tuple X) (too_large rule rows.next) refusal
+    (no_value_known schema codes rule tuple X refusal) (too_large_known schema rule rows.next refusal each)) found
 
 -- and so does each obstruction of the refused matches
-pub refused_known : (schema : Presentation) (rule : RuleLists) (rows : RowLists) (refused : List (List ℕ × Refusal))
-    → length rows.next ≡ length schema.objects → AreRefused (signature_of schema) rule rows refused → All (λ (entry : List ℕ × Refusal). IsKnown schema entry.1) refused
-refused_known schema rule rows refused each are =
-    All-weaker (λ (entry : List ℕ × Refusal). obstruction (signature_of schema) rule entry.0 rows ≡ Some entry.1) (λ (entry : List ℕ × Refusal). IsKnown schema entry.1)
-    (λ entry found. obstruction_known schema rule entry.0 rows entry.1 each found) refused are
+pub refused_known : (schema : Presentation) (codes : List OpCode) (rule : RuleLists) (rows : RowLists) (refused : List (List ℕ × Refusal))
+    → length rows.next ≡ length schema.objects → AreRefused (signature_of schema) codes rule rows refused → All (λ (entry : List ℕ × Refusal). IsKnown schema entry.1) refused
+refused_known schema codes rule rows refused each are =
+    All-weaker (λ (entry : List ℕ × Refusal). obstruction (signature_of schema) codes rule entry.0 rows ≡ Some entry.1) (λ (entry : List ℕ × Refusal). IsKnown schema entry.1)
+    (λ entry found. obstruction_known schema codes rule entry.0 rows entry.1 each found) refused are

@@ -2,6 +2,7 @@
 use Rattle.std.specs.Prelude.{◌≡◌, ℕ, List, length, map, Option, Some, None, Result, Ok, Err, find}
 use Rattle.std.specs.Str.{bytes_eq}
 use Rattle.rw_schema.specs.declared.section.Section.TheVariants.{Whole}
+use Rattle.rw_terms.specs.OpTables.{OpEntry, codes_of}
 use Rattle.rw_rule.specs.RuleLists.{WatchLists}
 use Rattle.rw_doc.specs.declared.fault.DocFault.{DocFault}
 use Rattle.rw_docrule.specs.Documents.{read_document}
@@ -54,13 +55,13 @@ status_of_end ends.Spent = Spent
 abbrev pub told : DocumentLists → Run → AnswerText
 told document run = record { status = status_of_end run.end; text = run_text document run }
 
--- the answer is that to a request about a document, or about its first fault
-abbrev pub IsAnswerTo : Request → Result DocumentLists DocFault → AnswerText → Type 0
-IsAnswerTo request (Err fault) answer = answer ≡ refusal fault
-IsAnswerTo (commands.matches name) (Ok document) answer = answer ≡ listed document (find (λ named. bytes_eq name named.name) (named_goals document))
-IsAnswerTo commands.check (Ok document) answer = answer ≡ checked document
-IsAnswerTo (commands.run fuel seed) (Ok document) answer = (run : Run) × IsRun document fuel run × (answer ≡ told document run)
+-- the answer is that to a request about a document, whose terms have these operations, or about its first fault
+abbrev pub IsAnswerTo : List OpEntry → Request → Result DocumentLists DocFault → AnswerText → Type 0
+IsAnswerTo ops request (Err fault) answer = answer ≡ refusal fault
+IsAnswerTo ops (commands.matches name) (Ok document) answer = answer ≡ listed document (find (λ named. bytes_eq name named.name) (named_goals document))
+IsAnswerTo ops commands.check (Ok document) answer = answer ≡ checked document
+IsAnswerTo ops (commands.run fuel seed) (Ok document) answer = (run : Run) × IsRun (codes_of ops) document fuel run × (answer ≡ told document run)
 
--- the answer is that to a request about the document that bytes are
-abbrev pub IsAnswer : Request → List ℕ → AnswerText → Type 0
-IsAnswer request bytes answer = IsAnswerTo request (read_document bytes) answer
+-- the answer is that to a request about the document that bytes are, where these operations can be named
+abbrev pub IsAnswer : List OpEntry → Request → List ℕ → AnswerText → Type 0
+IsAnswer ops request bytes answer = IsAnswerTo ops request (read_document ops bytes) answer

@@ -1,11 +1,22 @@
 -- The goals of a document whose lists are kept, and these lists.
-use Rattle.std.specs.Prelude.{ℕ, List, map, ◌++◌}
+use Rattle.std.specs.Prelude.{◌≤◌, ℕ, List, length, map, ◌++◌}
+use Rattle.std.specs.List.{All}
 use Rattle.rw_schema.specs.Presentation.{signature_of}
 use Rattle.rw_schema.specs.RowLists.{RowLists}
 use Rattle.rw_spec.specs.Instance.{instance_of}
+use Rattle.rw_table.specs.Tabled.{IsOver}
+use Rattle.rw_rule.specs.RuleFaults.{IsGoalOver}
 use Rattle.rw_rule.specs.RuleLists.{RuleLists, WatchLists}
 use Rattle.rw_lists.specs.Fresh.{fresh_list}
 use Rattle.rw_docrule.specs.Models.{DocumentLists}
+
+-- the instance and all goals are over the schema, and there are few of them
+pub record HasGoals (document : DocumentLists) : Type 0 where
+  pub table : IsOver document.schema document.table
+  pub rules : All (λ (rule : RuleLists). IsGoalOver (signature_of document.schema) rule.goal) document.rules
+  pub watches : All (λ (watch : WatchLists). IsGoalOver (signature_of document.schema) watch.goal) document.watches
+  pub few_rules : length document.rules ≤ 256
+  pub few_watches : length document.watches ≤ 64
 
 -- a rule's goal under its name
 abbrev pub goal_of_rule : RuleLists → WatchLists

@@ -4,6 +4,7 @@ pub mod Commands
 pub mod Endings
 pub mod Kept
 pub mod OneRun
+pub mod Operations
 pub mod Picked
 pub mod RunTexts
 pub mod Runners

@@ -3,6 +3,7 @@ use Rattle.std.specs.Prelude.{◌≡◌, ℕ, List, Option, Some, None}
 use Rattle.rw_schema.specs.RowLists.{RowLists}
 use Rattle.rw_schema.specs.Signature.{Signature}
 use Rattle.rw_spec.specs.Instance.{instance_of}
+use Rattle.rw_terms.specs.declared.code.OpCode.{OpCode}
 use Rattle.rw_rule.specs.RuleLists.{RuleLists}
 use Rattle.rw_plain.specs.PlainStep.{rows_after}
 use Rattle.rw_lists.specs.Fresh.{fresh_list}
@@ -16,11 +17,11 @@ applied_tuple None = None
 applied_tuple (Some applied) = Some applied.tuple
 
 -- the instance after a step is over the signature, and it is that of the step
-abbrev pub IsStep : Signature → RuleLists → RowLists → Option Applied → Type 0
-IsStep C rule rows None = Unit {0}
-IsStep C rule rows (Some applied) = applied.after ≡ record { signature = C; rows = rows_after C rule applied.tuple rows }
+abbrev pub IsStep : Signature → List OpCode → RuleLists → RowLists → Option Applied → Type 0
+IsStep C codes rule rows None = Unit {0}
+IsStep C codes rule rows (Some applied) = applied.after ≡ record { signature = C; rows = rows_after C codes rule applied.tuple rows }
 
 -- the first match without an obstruction is picked, and the step is made
-abbrev pub IsPick : Signature → RuleLists → RowLists → Pick → Type 0
-IsPick C rule rows pick =
-    Picks C rule rows (fresh_list C (instance_of C rows) rule.goal) pick.refused.items (applied_tuple pick.applied) × IsStep C rule rows pick.applied
+abbrev pub IsPick : Signature → List OpCode → RuleLists → RowLists → Pick → Type 0
+IsPick C codes rule rows pick =
+    Picks C codes rule rows (fresh_list C (instance_of C rows) rule.goal) pick.refused.items (applied_tuple pick.applied) × IsStep C codes rule rows pick.applied

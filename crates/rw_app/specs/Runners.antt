@@ -5,6 +5,7 @@ use Rattle.std.specs.Option.{is_some}
 use Rattle.rw_schema.specs.Presentation.{signature_of}
 use Rattle.rw_schema.specs.RowLists.{RowLists}
 use Rattle.rw_table.specs.Tabled.{IsOver}
+use Rattle.rw_terms.specs.declared.code.OpCode.{OpCode}
 use Rattle.rw_rule.specs.RuleLists.{RuleLists}
 use Rattle.rw_docrule.specs.Models.{DocumentLists}
 use Rattle.rw_print.specs.declared.last.End.{End}
@@ -21,8 +22,8 @@ pub record IsWorld (document : DocumentLists) (world : World) : Type 0 where
   pub fresh : map (λ list. list.items) world.lists.items ≡ lists_in document world.table.rows
 
 -- the rule's box, the first of the schedule, fires in the instance; this is the line of the firing, and this its state
-pub record IsFiring (document : DocumentLists) (rule : RuleLists) (before : RowLists) (fired : Fired) (firing : Firing) : Type 0 where
-  pub fires : Fires (signature_of document.schema) firing
+pub record IsFiring (codes : List OpCode) (document : DocumentLists) (rule : RuleLists) (before : RowLists) (fired : Fired) (firing : Firing) : Type 0 where
+  pub fires : Fires (signature_of document.schema) codes firing
   pub at_place : firing.place ≡ 0
   pub of_rule : firing.rule ≡ rule
   pub from_rows : firing.before ≡ before
@@ -36,16 +37,16 @@ abbrev pub at_first : ℕ → RowLists → Stand
 at_first fuel rows = record { place = 0; fuel = fuel; rows = rows }
 
 -- the firings lead from the first box to the end, these are their lines, and this is the state
-pub record HasRun (document : DocumentLists) (fuel : ℕ) (rows : RowLists) (ran : Ran) (firings : List Firing) (last : Stand) : Type 0 where
+pub record HasRun (codes : List OpCode) (document : DocumentLists) (fuel : ℕ) (rows : RowLists) (ran : Ran) (firings : List Firing) (last : Stand) : Type 0 where
   pub text : ran.text.items ≡ flat_map (firing_line document) firings
-  pub leads : Leads (signature_of document.schema) (default_schedule document.rules) (at_first fuel rows) firings last ran.end
+  pub leads : Leads (signature_of document.schema) codes (default_schedule document.rules) (at_first fuel rows) firings last ran.end
   pub fuel_left : last.fuel ≡ ran.fuel
   pub last_rows : last.rows ≡ ran.world.table.rows
   pub world : IsWorld document ran.world
 
 -- the firings so far lead to a state from which each run goes on: this is what a run knows that has not ended
-pub record HasBegun (document : DocumentLists) (fuel left : ℕ) (rows now : RowLists) (written : List ℕ) (firings : List Firing) : Type 0 where
+pub record HasBegun (codes : List OpCode) (document : DocumentLists) (fuel left : ℕ) (rows now : RowLists) (written : List ℕ) (firings : List Firing) : Type 0 where
   pub text : written ≡ flat_map (firing_line document) firings
   pub leads : (more : List Firing) (last : Stand) (end : End)
-      → Leads (signature_of document.schema) (default_schedule document.rules) (at_first left now) more last end
-      → Leads (signature_of document.schema) (default_schedule document.rules) (at_first fuel rows) (firings ++ more) last end
+      → Leads (signature_of document.schema) codes (default_schedule document.rules) (at_first left now) more last end
+      → Leads (signature_of document.schema) codes (default_schedule document.rules) (at_first fuel rows) (firings ++ more) last end

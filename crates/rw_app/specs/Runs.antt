@@ -5,6 +5,7 @@ use Rattle.rw_schema.specs.Presentation.{signature_of}
 use Rattle.rw_schema.specs.RowLists.{RowLists}
 use Rattle.rw_schema.specs.Signature.{Signature}
 use Rattle.rw_spec.specs.Instance.{instance_of}
+use Rattle.rw_terms.specs.declared.code.OpCode.{OpCode}
 use Rattle.rw_rule.specs.RuleLists.{RuleLists}
 use Rattle.rw_rule.specs.declared.refusal.Refusal.{Refusal}
 use Rattle.rw_plain.specs.Obstructions.{obstruction}
@@ -27,28 +28,28 @@ pub record Firing : Type 0 where
   pub after : RowLists
 
 -- each refused match has this first obstruction
-abbrev pub AreRefused : Signature → RuleLists → RowLists → List (List ℕ × Refusal) → Type 0
-AreRefused C rule rows refused = All (λ (entry : List ℕ × Refusal). obstruction C rule entry.0 rows ≡ Some entry.1) refused
+abbrev pub AreRefused : Signature → List OpCode → RuleLists → RowLists → List (List ℕ × Refusal) → Type 0
+AreRefused C codes rule rows refused = All (λ (entry : List ℕ × Refusal). obstruction C codes rule entry.0 rows ≡ Some entry.1) refused
 
 abbrev pub tuples_of : List (List ℕ × Refusal) → List (List ℕ)
 tuples_of refused = map (λ (entry : List ℕ × Refusal). entry.0) refused
 
 -- of a list of matches the first without an obstruction is picked, and those before it are refused; where each has an
 -- obstruction none is picked, and all are refused
-abbrev pub Picks : Signature → RuleLists → RowLists → List (List ℕ) → List (List ℕ × Refusal) → Option (List ℕ) → Type 0
-Picks C rule rows found refused None = (found ≡ tuples_of refused) × AreRefused C rule rows refused
-Picks C rule rows found refused (Some tuple) =
-    ((rest : List (List ℕ)) × (found ≡ tuples_of refused ++ tuple ∷ rest)) × AreRefused C rule rows refused × (obstruction C rule tuple rows ≡ None)
+abbrev pub Picks : Signature → List OpCode → RuleLists → RowLists → List (List ℕ) → List (List ℕ × Refusal) → Option (List ℕ) → Type 0
+Picks C codes rule rows found refused None = (found ≡ tuples_of refused) × AreRefused C codes rule rows refused
+Picks C codes rule rows found refused (Some tuple) =
+    ((rest : List (List ℕ)) × (found ≡ tuples_of refused ++ tuple ∷ rest)) × AreRefused C codes rule rows refused × (obstruction C codes rule tuple rows ≡ None)
 
 -- a picked match is applied; where none is picked the instance stays
-abbrev pub Changes : Signature → RuleLists → RowLists → Option (List ℕ) → RowLists → Type 0
-Changes C rule before None after = after ≡ before
-Changes C rule before (Some tuple) after = after ≡ rows_after C rule tuple before
+abbrev pub Changes : Signature → List OpCode → RuleLists → RowLists → Option (List ℕ) → RowLists → Type 0
+Changes C codes rule before None after = after ≡ before
+Changes C codes rule before (Some tuple) after = after ≡ rows_after C codes rule tuple before
 
 -- the matches are tried in the order of the rule's list, and the one that is picked is applied
-pub record Fires (C : Signature) (firing : Firing) : Type 0 where
-  pub picks : Picks C firing.rule firing.before (fresh_list C (instance_of C firing.before) firing.rule.goal) firing.refused firing.applied
-  pub changes : Changes C firing.rule firing.before firing.applied firing.after
+pub record Fires (C : Signature) (codes : List OpCode) (firing : Firing) : Type 0 where
+  pub picks : Picks C codes firing.rule firing.before (fresh_list C (instance_of C firing.before) firing.rule.goal) firing.refused firing.applied
+  pub changes : Changes C codes firing.rule firing.before firing.applied firing.after
 
 -- ---- the schedule
 
@@ -77,12 +78,12 @@ abbrev pub stand_after : Stand → Firing → Stand
 stand_after stand firing = record { place = place_after firing.applied; fuel = stand.fuel - 1; rows = firing.after }
 
 -- the box at which the run stands fires
-pub record IsFired (C : Signature) (boxes : List Box) (stand : Stand) (firing : Firing) : Type 0 where
+pub record IsFired (C : Signature) (codes : List OpCode) (boxes : List Box) (stand : Stand) (firing : Firing) : Type 0 where
   pub box : slice_get boxes stand.place ≡ Some (rule firing.rule)
   pub fuel : 0 < stand.fuel
   pub place : firing.place ≡ stand.place
   pub before : firing.before ≡ stand.rows
-  pub fires : Fires C firing
+  pub fires : Fires C codes firing
 
 -- a run ends at the exit, or at a rule's box without fuel; no box fails yet
 abbrev pub EndsAt : List Box → Stand → End → Type 0
@@ -99,12 +100,12 @@ pub record Run : Type 0 where
   pub end : End
 
 -- the firings lead from where the run stands to its end
-abbrev pub Leads : Signature → List Box → Stand → List Firing → Stand → End → Type 0
-Leads C boxes stand [] last end = (last ≡ stand) × EndsAt boxes stand end
-Leads C boxes stand (firing ∷ firings) last end = IsFired C boxes stand firing × Leads C boxes (stand_after stand firing) firings last end
+abbrev pub Leads : Signature → List OpCode → List Box → Stand → List Firing → Stand → End → Type 0
+Leads C codes boxes stand [] last end = (last ≡ stand) × EndsAt boxes stand end
+Leads C codes boxes stand (firing ∷ firings) last end = IsFired C codes boxes stand firing × Leads C codes boxes (stand_after stand firing) firings last end
 
 -- the run of a document with so much fuel, from its instance and its schedule's first box
-abbrev pub IsRun : DocumentLists → ℕ → Run → Type 0
-IsRun document fuel run =
-    Leads (signature_of document.schema) (default_schedule document.rules)
+abbrev pub IsRun : List OpCode → DocumentLists → ℕ → Run → Type 0
+IsRun codes document fuel run =
+    Leads (signature_of document.schema) codes (default_schedule document.rules)
     (record { place = 0; fuel = fuel; rows = document.table.rows }) run.firings run.last run.end

@@ -1,17 +1,18 @@
 //! The answer of a command: from the bytes of a document to a status and a text.
 
-ghost use Rattle.std.specs.Prelude.{◌≡◌, IfOk, None, Ok, find, length, map};
+ghost use Rattle.std.specs.Prelude.{◌≡◌, ◌<◌, ◌^◌, IfOk, None, Ok, find, length, map};
 ghost use Rattle.rw_schema.specs.Presentation.{signature_of};
 ghost use Rattle.std.specs.Option.{option_map};
 ghost use Rattle.std.specs.Str.{bytes_eq};
 ghost use Rattle.rw_table.specs.Tabled.{IsOver};
 ghost use Rattle.rw_rule.specs.RuleFaults.{IsGoalOver};
 ghost use Rattle.rw_rule.specs.RuleParts.{goal_of_parts};
+ghost use Rattle.rw_terms.specs.OpEntries.{entries};
 ghost use Rattle.rw_docrule.specs.Models.{document_lists, IsSound};
 ghost use Rattle.rw_app.specs.Answers.{IsAnswer, IsAnswerTo, checked, listed, refusal as refusal_of};
 ghost use Rattle.rw_app.specs.AnswerTexts.{text_of_answer};
 ghost use Rattle.rw_app.specs.Commands.{asked_for, matches};
-ghost use Rattle.rw_app.specs.Kept.{named_goals};
+ghost use Rattle.rw_app.specs.Kept.{HasGoals, named_goals};
 ghost use Rattle.rw_app.specs.RunTexts.{sizes_in};
 ghost use Rattle.rw_app.specs.declared.status.Status.TheVariants.{Done};
 ghost use Rattle.rw_print.specs.Lines.{line, check_data};
@@ -28,6 +29,7 @@ use rw_pattern::Tuple;
 use rw_print::{check_line, fault_line, matches_line};
 use rw_schema::{MOST_OBJECTS, OutOfMemory, Schema, Section};
 use rw_table::Table;
+use rw_terms::OpTable;
 use std::alloc::Global;
 
 /// What a command answers: how it ends, and the text that it writes.
@@ -37,16 +39,18 @@ pub struct Answer {
     pub text: Vec<u8>,
 }
 
-/// The answer of a command to the bytes of a document.
+/// The answer of a command to the bytes of a document, whose terms can name the operations of the table.
 pub fn answer_command(
     alloc: Global,
     command: Command<'_>,
     bytes: &[u8],
+    ops: &OpTable,
 ) -> Result<Answer, OutOfMemory>
-    ensures { IfOk result (λ answer. IsAnswer (asked_for command.entry) bytes.now (text_of_answer answer)) }
+    requires { length (entries ops.now) < 2 ^ 32 }
+    ensures { IfOk result (λ answer. IsAnswer (entries ops.now) (asked_for command.entry) bytes.now (text_of_answer answer)) }
 {
-    match read_document(alloc, bytes) {
-        Ok(document) => answer_about(alloc, command, &document),
+    match read_document(alloc, bytes, ops) {
+        Ok(document) => answer_about(alloc, command, &document, ops),
         Err(ReadDocEnd::Refused(fault)) => refusal(alloc, fault),
         Err(ReadDocEnd::OutOfMemory) => Err(OutOfMemory),
     }
@@ -57,20 +61,21 @@ fn answer_about(
     alloc: Global,
     command: Command<'_>,
     document: &Document,
+    ops: &OpTable,
 ) -> Result<Answer, OutOfMemory>
-    requires { IsSound (document_lists document.now) }
-    ensures { IfOk result (λ answer. IsAnswerTo (asked_for command.entry) (Ok (document_lists document.now)) (text_of_answer answer)) }
+    requires { IsSound (length (entries ops.now)) (document_lists document.now) }
+    ensures { IfOk result (λ answer. IsAnswerTo (entries ops.now) (asked_for command.entry) (Ok (document_lists document.now)) (text_of_answer answer)) }
 {
     match command {
         Command::Matches(name) => list_matches(alloc, name, document),
-        Command::Run { fuel, seed: _ } => run_document(alloc, document, fuel),
+        Command::Run { fuel, seed: _ } => run_document(alloc, document, fuel, ops),
         Command::Check => check_document(alloc, document),
     }
 }
 
 /// The matches of the rule or the watch with the name.
 fn list_matches(alloc: Global, name: &str, document: &Document) -> Result<Answer, OutOfMemory>
-    requires { IsSound (document_lists document.now) }
+    requires { HasGoals (document_lists document.now) }
     ensures { IfOk result (λ answer. text_of_answer answer ≡ listed (document_lists document.now) (find (λ named. bytes_eq name.now named.name) (named_goals (document_lists document.now)))) }
 {
     match goal_named(document, name) {
@@ -90,7 +95,7 @@ fn list_matches(alloc: Global, name: &str, document: &Document) -> Result<Answer
 
 /// The matches of a goal.
 fn list_goal(alloc: Global, document: &Document, named: Named<'_>) -> Result<Answer, OutOfMemory>
-    requires sound { IsSound (document_lists document.now) }
+    requires table { IsOver document.now.schema document.now.table }
     requires goal { IsGoalOver (signature_of document.now.schema) (goal_of_parts named.goal.now) }
     ensures { IfOk result (λ answer. text_of_answer answer ≡ listed (document_lists document.now) (Some (record { name = named.entry.name.now; goal = goal_of_parts named.entry.goal.now }))) }
 {
@@ -104,7 +109,7 @@ fn list_goal(alloc: Global, document: &Document, named: Named<'_>) -> Result<Ans
 
 /// The lengths of the kept lists, and the numbers of parts.
 fn check_document(alloc: Global, document: &Document) -> Result<Answer, OutOfMemory>
-    requires { IsSound (document_lists document.now) }
+    requires { HasGoals (document_lists document.now) }
     ensures { IfOk result (λ answer. text_of_answer answer ≡ checked (document_lists document.now)) }
 {
     let kept = kept_lists(alloc, document, &document.table)?;

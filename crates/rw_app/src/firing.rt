@@ -1,9 +1,11 @@
 //! One firing of a rule's box.
 
-ghost use Rattle.std.specs.Prelude.{◌≡◌, ◌∷◌, IfOk, List, Some, None};
+ghost use Rattle.std.specs.Prelude.{◌≡◌, ◌∷◌, IfOk, List, Some, None, length};
 ghost use Rattle.std.specs.List.{All};
 ghost use Rattle.rw_schema.specs.Presentation.{signature_of};
 ghost use Rattle.rw_rule.specs.RuleLists.{RuleLists};
+ghost use Rattle.rw_terms.specs.OpEntries.{entries};
+ghost use Rattle.rw_terms.specs.OpTables.{codes_of};
 ghost use Rattle.rw_docrule.specs.Models.{document_lists, IsSound};
 ghost use Rattle.rw_print.specs.Lines.{IsKnown};
 ghost use Rattle.rw_app.specs.Picked.{IsPick};
@@ -19,6 +21,7 @@ use rw_pattern::Tuple;
 use rw_print::step_line;
 use rw_rule::{Refusal, Rule};
 use rw_schema::OutOfMemory;
+use rw_terms::OpTable;
 use std::alloc::Global;
 
 /// What a firing gives: its line, whether a match was applied, and the state after it.
@@ -35,17 +38,18 @@ pub(crate) fn fire(
     document: &Document,
     rule: &Rule,
     world: World,
+    ops: &OpTable,
 ) -> Result<Fired, OutOfMemory>
-    requires sound { IsSound (document_lists document.now) }
+    requires sound { IsSound (length (entries ops.now)) (document_lists document.now) }
     requires rule { (others : List RuleLists) × (document.now.rules.items ≡ rule.now ∷ others) }
     requires world { IsWorld (document_lists document.now) world }
-    ensures { IfOk result (λ fired. (firing : Firing) × IsFiring (document_lists document.now) rule.now world.table.rows fired firing) }
+    ensures { IfOk result (λ fired. (firing : Firing) × IsFiring (codes_of (entries ops.now)) (document_lists document.now) rule.now world.table.rows fired firing) }
 {
     let found = world.lists[0].as_slice();
-    let Pick { refused, applied } = pick_first(alloc, &document.schema, rule, &world.table, found)?;
+    let Pick { refused, applied } = pick_first(alloc, &document.schema, rule, &world.table, found, ops)?;
     match applied {
-        Some(applied) => step(alloc, document, rule, world, applied, refused),
-        None => stay(alloc, document, rule, world, refused),
+        Some(applied) => step(alloc, document, rule, world, applied, refused, ops),
+        None => stay(alloc, document, rule, world, refused, ops),
     }
 }
 
@@ -57,12 +61,13 @@ fn step(
     world: World,
     applied: Applied,
     refused: Vec<(Tuple, Refusal)>,
+    ops: &OpTable,
 ) -> Result<Fired, OutOfMemory>
-    requires sound { IsSound (document_lists document.now) }
+    requires sound { IsSound (length (entries ops.now)) (document_lists document.now) }
     requires world { IsWorld (document_lists document.now) world }
-    requires pick { IsPick (signature_of document.now.schema) rule.now world.table.rows (record { refused = refused; applied = Some applied }) }
+    requires pick { IsPick (signature_of document.now.schema) (codes_of (entries ops.now)) rule.now world.table.rows (record { refused = refused; applied = Some applied }) }
     requires known { All (λ entry. IsKnown document.now.schema entry.1) refused.items }
-    ensures { IfOk result (λ fired. (firing : Firing) × IsFiring (document_lists document.now) rule.now world.table.rows fired firing) }
+    ensures { IfOk result (λ fired. (firing : Firing) × IsFiring (codes_of (entries ops.now)) (document_lists document.now) rule.now world.table.rows fired firing) }
 {
     let lists = kept_lists(alloc, document, &applied.after)?;
     let news = differences(alloc, world.lists.as_slice(), lists.as_slice())?;
@@ -93,12 +98,13 @@ fn stay(
     rule: &Rule,
     world: World,
     refused: Vec<(Tuple, Refusal)>,
+    ops: &OpTable,
 ) -> Result<Fired, OutOfMemory>
-    requires sound { IsSound (document_lists document.now) }
+    requires sound { IsSound (length (entries ops.now)) (document_lists document.now) }
     requires world { IsWorld (document_lists document.now) world }
-    requires pick { IsPick (signature_of document.now.schema) rule.now world.table.rows (record { refused = refused; applied = None }) }
+    requires pick { IsPick (signature_of document.now.schema) (codes_of (entries ops.now)) rule.now world.table.rows (record { refused = refused; applied = None }) }
     requires known { All (λ entry. IsKnown document.now.schema entry.1) refused.items }
-    ensures { IfOk result (λ fired. (firing : Firing) × IsFiring (document_lists document.now) rule.now world.table.rows fired firing) }
+    ensures { IfOk result (λ fired. (firing : Firing) × IsFiring (codes_of (entries ops.now)) (document_lists document.now) rule.now world.table.rows fired firing) }
 {
     let news = ListsNews {
         lists: Vec::new(alloc),

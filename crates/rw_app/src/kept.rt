@@ -4,12 +4,12 @@ ghost use Rattle.std.specs.Prelude.{◌≡◌, ◌++◌, IfOk, OnOk, map};
 ghost use Rattle.std.specs.List.{All};
 ghost use Rattle.rw_schema.specs.Presentation.{signature_of};
 ghost use Rattle.rw_table.specs.Tabled.{IsOver, instance_of_table};
-ghost use Rattle.rw_rule.specs.RuleFaults.{IsGoalOver, IsRuleOver};
+ghost use Rattle.rw_rule.specs.RuleFaults.{IsGoalOver};
 ghost use Rattle.rw_rule.specs.RuleLists.{RuleLists};
 ghost use Rattle.rw_rule.specs.RuleParts.{goal_of_parts};
 ghost use Rattle.rw_lists.specs.Fresh.{fresh_list as fresh_list_of};
-ghost use Rattle.rw_docrule.specs.Models.{document_lists, IsSound};
-ghost use Rattle.rw_app.specs.Kept.{lists_in};
+ghost use Rattle.rw_docrule.specs.Models.{document_lists};
+ghost use Rattle.rw_app.specs.Kept.{HasGoals, lists_in};
 
 use rw_docrule::Document;
 use rw_lists::fresh_list;
@@ -25,7 +25,7 @@ pub(crate) fn kept_lists(
     document: &Document,
     table: &Table,
 ) -> Result<Vec<Vec<Tuple>>, OutOfMemory>
-    requires sound { IsSound (document_lists document.now) }
+    requires goals { HasGoals (document_lists document.now) }
     requires table { IsOver document.now.schema table.now }
     ensures { IfOk result (λ lists. map (λ list. list.items) lists.items ≡ lists_in (document_lists document.now) table.now.rows) }
 {
@@ -55,7 +55,7 @@ fn push_rules(
     table: &Table,
     lists: &mut Vec<Vec<Tuple>>,
 ) -> Result<(), OutOfMemory>
-    requires rules { All (IsRuleOver (signature_of schema.now)) rules.now }
+    requires rules { All (λ (rule : RuleLists). IsGoalOver (signature_of schema.now) rule.goal) rules.now }
     requires table { IsOver schema.now table.now }
     ensures { OnOk result (map (λ list. list.items) lists.new.items ≡ map (λ list. list.items) lists.old.items
         ++ map (λ (rule : RuleLists). fresh_list_of (signature_of schema.now) (instance_of_table table.now) rule.goal) rules.now) }

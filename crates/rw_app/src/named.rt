@@ -6,8 +6,8 @@ ghost use Rattle.std.specs.Str.{bytes_eq};
 ghost use Rattle.rw_schema.specs.Presentation.{signature_of};
 ghost use Rattle.rw_rule.specs.RuleFaults.{IsGoalOver};
 ghost use Rattle.rw_rule.specs.RuleParts.{goal_of_parts};
-ghost use Rattle.rw_docrule.specs.Models.{document_lists, IsSound};
-ghost use Rattle.rw_app.specs.Kept.{named_goals};
+ghost use Rattle.rw_docrule.specs.Models.{document_lists};
+ghost use Rattle.rw_app.specs.Kept.{HasGoals, named_goals};
 
 use rw_docrule::Document;
 use rw_rule::{Goal, Rule, Watch};
@@ -22,7 +22,7 @@ pub(crate) struct Named<'a> {
 
 /// The goal of the rule or the watch with the name.
 pub(crate) fn goal_named<'a>(document: &'a Document, name: &str) -> Option<Named<'a>>
-    requires { IsSound (document_lists document.now) }
+    requires { HasGoals (document_lists document.now) }
     ensures found { option_map (λ named. record { name = named.name.now; goal = goal_of_parts named.goal.now }) result
         ≡ find (λ named. bytes_eq name.now named.name) (named_goals (document_lists document.now)) }
     ensures over { IfSome result (λ named. IsGoalOver (signature_of document.now.schema) (goal_of_parts named.goal.now)) }

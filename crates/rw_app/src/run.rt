@@ -1,6 +1,8 @@
 //! The top call: from words and a source to a sink.
 
-ghost use Rattle.std.specs.Prelude.{◌≡◌, ◌≤◌, None, map, string_bytes};
+ghost use Rattle.std.specs.Prelude.{◌≡◌, ◌<◌, ◌≤◌, ◌^◌, None, length, map, string_bytes, take};
+ghost use Rattle.rw_terms.specs.OpEntries.{entries};
+ghost use Rattle.rw_app.specs.Operations.{usual_operations};
 ghost use Rattle.rw_app.specs.Answers.{IsAnswer};
 ghost use Rattle.rw_app.specs.Commands.{asked_for, request_of};
 ghost use Rattle.rw_app.specs.Endings.{Ends, EndsUnread, EndsAsAsked, EndsWritten, IsComplete, IsOfAnswer};
@@ -12,6 +14,7 @@ use crate::command::{Command, USAGE, command_of};
 use rw_outside::{ReadEnd, Sink, Source, WriteEnd, read_all, write_all};
 use rw_schema::OutOfMemory;
 use rw_steps::Steps;
+use rw_terms::OpTable;
 use std::alloc::Global;
 use std::sync::ledger::Ledger;
 
@@ -19,18 +22,22 @@ use std::sync::ledger::Ledger;
 pub const MOST_BYTES: usize = 67_108_864;
 
 /// Does what the words ask for: reads a document from the source to its end, and writes the command's text to the
-/// sink. Words that ask for nothing get the usage line; that takes no memory. Nothing is counted yet.
+/// sink. Terms of a document can name the operations of the table, of which the first eight are those of docs/FORMAT.md.
+/// Words that ask for nothing get the usage line; that takes no memory. Nothing is counted yet.
 pub fn run_words<S: Source, K: Sink, L: Ledger>(
     alloc: Global,
     words: &Vec<String>,
     source: &mut S,
     sink: &mut K,
+    ops: &OpTable,
     steps: &mut Steps<L>,
 ) -> Status
-    ensures ends { EndsAsAsked IsAnswer (request_of (map string_bytes words.now.items))
+    requires usual { take 8 (entries ops.now) ≡ usual_operations }
+    requires few { length (entries ops.now) < 2 ^ 32 }
+    ensures ends { EndsAsAsked (IsAnswer (entries ops.now)) (request_of (map string_bytes words.now.items))
         (record { left = S.left source.old; held = K.held sink.old; source_faults = S.faults source.old; sink_faults = K.faults sink.old })
         (record { left = S.left source.new; held = K.held sink.new; source_faults = S.faults source.new; sink_faults = K.faults sink.new }) result }
-    ensures complete { IsComplete IsAnswer (request_of (map string_bytes words.now.items))
+    ensures complete { IsComplete (IsAnswer (entries ops.now)) (request_of (map string_bytes words.now.items))
         (record { left = S.left source.old; held = K.held sink.old; source_faults = S.faults source.old; sink_faults = K.faults sink.old })
         (record { left = S.left source.new; held = K.held sink.new; source_faults = S.faults source.new; sink_faults = K.faults sink.new }) result }
     ensures source_faults { S.faults source.old ≤ S.faults source.new }
@@ -38,7 +45,7 @@ pub fn run_words<S: Source, K: Sink, L: Ledger>(
     ensures steps { steps.new ≡ steps.old }
 {
     let _steps = steps;
-    dispatch(alloc, words, source, sink)
+    dispatch(alloc, words, source, sink, ops)
 }
 
 /// Does what the words ask for.
@@ -47,15 +54,17 @@ fn dispatch<S: Source, K: Sink>(
     words: &Vec<String>,
     source: &mut S,
     sink: &mut K,
+    ops: &OpTable,
 ) -> Status
-    ensures ends { EndsAsAsked IsAnswer (request_of (map string_bytes words.now.items))
+    requires { length (entries ops.now) < 2 ^ 32 }
+    ensures ends { EndsAsAsked (IsAnswer (entries ops.now)) (request_of (map string_bytes words.now.items))
         (record { left = S.left source.old; held = K.held sink.old; source_faults = S.faults source.old; sink_faults = K.faults sink.old })
         (record { left = S.left source.new; held = K.held sink.new; source_faults = S.faults source.new; sink_faults = K.faults sink.new }) result }
     ensures source_faults { S.faults source.old ≤ S.faults source.new }
     ensures sink_faults { K.faults sink.old ≤ K.faults sink.new }
 {
     match command_of(words) {
-        Some(command) => run_command(alloc, command, source, sink),
+        Some(command) => run_command(alloc, command, source, sink, ops),
         None => write_usage(source, sink),
     }
 }
@@ -81,15 +90,17 @@ fn run_command<S: Source, K: Sink>(
     command: Command<'_>,
     source: &mut S,
     sink: &mut K,
+    ops: &OpTable,
 ) -> Status
-    ensures ends { Ends (IsAnswer (asked_for command.entry))
+    requires { length (entries ops.now) < 2 ^ 32 }
+    ensures ends { Ends (IsAnswer (entries ops.now) (asked_for command.entry))
         (record { left = S.left source.old; held = K.held sink.old; source_faults = S.faults source.old; sink_faults = K.faults sink.old })
         (record { left = S.left source.new; held = K.held sink.new; source_faults = S.faults source.new; sink_faults = K.faults sink.new }) result }
     ensures source_faults { S.faults source.old ≤ S.faults source.new }
     ensures sink_faults { K.faults sink.old ≤ K.faults sink.new }
 {
     match read_all(alloc, source, MOST_BYTES) {
-        Ok(bytes) => write_answer(alloc, command, bytes.as_slice(), sink),
+        Ok(bytes) => write_answer(alloc, command, bytes.as_slice(), sink, ops),
         Err(ReadEnd::Fault) => Status::ReadFault,
         Err(ReadEnd::TooLong) => Status::TooLong,
         Err(ReadEnd::OutOfMemory) => Status::NoMemory,
@@ -97,13 +108,20 @@ fn run_command<S: Source, K: Sink>(
 }
 
 /// Writes what the command answers to the bytes.
-fn write_answer<K: Sink>(alloc: Global, command: Command<'_>, bytes: &[u8], sink: &mut K) -> Status
-    ensures ends { EndsWritten (IsAnswer (asked_for command.entry) bytes.now)
+fn write_answer<K: Sink>(
+    alloc: Global,
+    command: Command<'_>,
+    bytes: &[u8],
+    sink: &mut K,
+    ops: &OpTable,
+) -> Status
+    requires { length (entries ops.now) < 2 ^ 32 }
+    ensures ends { EndsWritten (IsAnswer (entries ops.now) (asked_for command.entry) bytes.now)
         (record { left = None; held = K.held sink.old; source_faults = 0; sink_faults = K.faults sink.old })
         (record { left = None; held = K.held sink.new; source_faults = 0; sink_faults = K.faults sink.new }) result }
     ensures sink_faults { K.faults sink.old ≤ K.faults sink.new }
 {
-    match answer_command(alloc, command, bytes) {
+    match answer_command(alloc, command, bytes, ops) {
         Ok(answer) => write_text(&answer, sink),
         Err(OutOfMemory) => Status::NoMemory,
     }

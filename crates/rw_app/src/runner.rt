@@ -3,6 +3,8 @@
 ghost use Rattle.std.specs.Prelude.{◌≡◌, ◌++◌, ◌∷◌, ℕ, IfOk, List, Ok, map, length};
 ghost use Rattle.rw_table.specs.Tabled.{IsOver};
 ghost use Rattle.rw_rule.specs.RuleLists.{RuleLists};
+ghost use Rattle.rw_terms.specs.OpEntries.{entries};
+ghost use Rattle.rw_terms.specs.OpTables.{codes_of};
 ghost use Rattle.rw_docrule.specs.Models.{document_lists, IsSound};
 ghost use Rattle.rw_print.specs.Lines.{line, end_data};
 ghost use Rattle.rw_app.specs.Answers.{IsAnswerTo, status_of_end as status_of_run};
@@ -21,6 +23,7 @@ use rw_docrule::Document;
 use rw_print::{End, end_line};
 use rw_rule::Rule;
 use rw_schema::{MOST_OBJECTS, OutOfMemory, Schema};
+use rw_terms::OpTable;
 use std::alloc::Global;
 
 /// What a run gives: the lines of its firings, how it ended, the fuel that is left, and the last state.
@@ -38,12 +41,13 @@ pub(crate) fn run_document(
     alloc: Global,
     document: &Document,
     fuel: u32,
+    ops: &OpTable,
 ) -> Result<Answer, OutOfMemory>
-    requires { IsSound (document_lists document.now) }
-    ensures { IfOk result (λ answer. (seed : ℕ) → IsAnswerTo (run fuel seed) (Ok (document_lists document.now)) (text_of_answer answer)) }
+    requires { IsSound (length (entries ops.now)) (document_lists document.now) }
+    ensures { IfOk result (λ answer. (seed : ℕ) → IsAnswerTo (entries ops.now) (run fuel seed) (Ok (document_lists document.now)) (text_of_answer answer)) }
 {
     let world = load(alloc, document)?;
-    let ran = run_schedule(alloc, document, fuel, world)?;
+    let ran = run_schedule(alloc, document, fuel, world, ops)?;
     finish(alloc, &document.schema, ran)
 }
 
@@ -53,13 +57,14 @@ fn run_schedule(
     document: &Document,
     fuel: u32,
     start: World,
+    ops: &OpTable,
 ) -> Result<Ran, OutOfMemory>
-    requires sound { IsSound (document_lists document.now) }
+    requires sound { IsSound (length (entries ops.now)) (document_lists document.now) }
     requires start { IsWorld (document_lists document.now) start }
-    ensures { IfOk result (λ ran. (firings : List Firing) × ((last : Stand) × HasRun (document_lists document.now) fuel start.table.rows ran firings last)) }
+    ensures { IfOk result (λ ran. (firings : List Firing) × ((last : Stand) × HasRun (codes_of (entries ops.now)) (document_lists document.now) fuel start.table.rows ran firings last)) }
 {
     match document.rules.first() {
-        Some(rule) => run_rule(alloc, document, rule, fuel, start),
+        Some(rule) => run_rule(alloc, document, rule, fuel, start, ops),
         None => Ok(Ran {
             text: Vec::new(alloc),
             end: End::Done,
@@ -76,17 +81,18 @@ fn run_rule(
     rule: &Rule,
     fuel: u32,
     start: World,
+    ops: &OpTable,
 ) -> Result<Ran, OutOfMemory>
-    requires sound { IsSound (document_lists document.now) }
+    requires sound { IsSound (length (entries ops.now)) (document_lists document.now) }
     requires rule { (others : List RuleLists) × (document.now.rules.items ≡ rule.now ∷ others) }
     requires start { IsWorld (document_lists document.now) start }
-    ensures { IfOk result (λ ran. (firings : List Firing) × ((last : Stand) × HasRun (document_lists document.now) fuel start.table.rows ran firings last)) }
+    ensures { IfOk result (λ ran. (firings : List Firing) × ((last : Stand) × HasRun (codes_of (entries ops.now)) (document_lists document.now) fuel start.table.rows ran firings last)) }
 {
     let mut text = Vec::new(alloc);
     let mut world = start;
     let mut left = fuel;
     while left > 0 {
-        let fired = fire(alloc, document, rule, world)?;
+        let fired = fire(alloc, document, rule, world, ops)?;
         text.extend_from_slice(fired.line.as_slice())?;
         left -= 1;
         world = fired.world;

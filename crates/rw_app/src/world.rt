@@ -1,7 +1,8 @@
 //! The state of a run.
 
 ghost use Rattle.std.specs.Prelude.{◌≡◌, IfOk};
-ghost use Rattle.rw_docrule.specs.Models.{document_lists, IsSound};
+ghost use Rattle.rw_docrule.specs.Models.{document_lists};
+ghost use Rattle.rw_app.specs.Kept.{HasGoals};
 ghost use Rattle.rw_app.specs.Runners.{IsWorld};
 
 use crate::kept::kept_lists;
@@ -20,7 +21,7 @@ pub(crate) struct World {
 
 /// The state at the start of a run: the document's instance.
 pub(crate) fn load(alloc: Global, document: &Document) -> Result<World, OutOfMemory>
-    requires { IsSound (document_lists document.now) }
+    requires { HasGoals (document_lists document.now) }
     ensures world { IfOk result (λ world. IsWorld (document_lists document.now) world) }
     ensures rows { IfOk result (λ world. world.table.rows ≡ document.now.table.rows) }
 {

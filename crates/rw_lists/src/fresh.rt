@@ -14,7 +14,8 @@ use rw_search::all_matches;
 use rw_table::Table;
 use std::alloc::Global;
 
-/// The list of the goal in the table: all its matches, in lexicographic order, each once.
+/// The list of the goal in the table: all matches of its pattern, in lexicographic order, each once. Conditions are not
+/// looked at yet; no document has any.
 pub fn fresh_list(
     alloc: Global,
     schema: &Schema,

@@ -4,7 +4,7 @@ use Rattle.serde_json.specs.Data.{Data}
 use Rattle.serde_json.specs.Written.{has_float}
 use Rattle.rw_schema.specs.Presentation.{Presentation}
 use Rattle.rw_rule.specs.declared.refusal.Refusal.{Refusal}
-use Rattle.rw_rule.specs.declared.refusal.Refusal.TheVariants.{Dangling, TooLarge}
+use Rattle.rw_rule.specs.declared.refusal.Refusal.TheVariants.{Dangling, NoValue, TooLarge}
 use Rattle.rw_lists.specs.News.{NewsLists}
 use Rattle.rw_print.specs.declared.last.End.{End}
 use Rattle.rw_print.specs.Lines.{list_data, tuple_data, matches_data, count_data, refusal_data, refused_data, news_data, applied_data, step_data, check_data, end_data}
@@ -30,6 +30,7 @@ no_float_in_matches name tuples = rw (no_float_in_tuples tuples) refl
 -- an obstruction has no float
 no_float_in_refusal : (schema : Presentation) (refusal : Refusal) → has_float (refusal_data schema refusal) ≡ false
 no_float_in_refusal schema (Dangling arrow part) = refl
+no_float_in_refusal schema (NoValue part attr) = refl
 no_float_in_refusal schema (TooLarge id) = refl
 
 -- a tuple with its obstruction has no float

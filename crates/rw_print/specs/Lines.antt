@@ -4,14 +4,15 @@ use Rattle.serde_json.specs.Data.{Data, null, number, unsigned, string, array, o
 use Rattle.serde_json.specs.View.{items_of}
 use Rattle.serde_json.specs.Written.{compact_text}
 use Rattle.rw_schema.specs.declared.ids.ArrowId.{ArrowId}
+use Rattle.rw_schema.specs.declared.ids.AttrId.{AttrId}
 use Rattle.rw_schema.specs.declared.ids.ObjectId.{ObjectId}
 use Rattle.rw_schema.specs.declared.section.Section.{Section}
 use Rattle.rw_schema.specs.Presentation.{Presentation}
 use Rattle.rw_schema.specs.RowLists.{list_at}
-use Rattle.rw_schema.specs.SchemaFaults.{arrow_name}
+use Rattle.rw_schema.specs.SchemaFaults.{arrow_name, attribute_name}
 use Rattle.rw_schema.specs.SectionName.{name_of_section}
 use Rattle.rw_rule.specs.declared.refusal.Refusal.{Refusal}
-use Rattle.rw_rule.specs.declared.refusal.Refusal.TheVariants.{Dangling, TooLarge}
+use Rattle.rw_rule.specs.declared.refusal.Refusal.TheVariants.{Dangling, NoValue, TooLarge}
 use Rattle.rw_lists.specs.News.{NewsLists}
 use Rattle.rw_print.specs.declared.last.End.{End}
 use Rattle.rw_print.specs.declared.last.End.TheVariants.{Done, Failed, Spent}
@@ -54,9 +55,13 @@ name_of_object schema id = list_at schema.objects id.0
 abbrev pub name_of_arrow : Presentation → ArrowId → List ℕ
 name_of_arrow schema id = list_at (map arrow_name schema.arrows) id.0
 
--- ["dangling",arrow,part], ["too_large",object]
+abbrev pub name_of_attribute : Presentation → AttrId → List ℕ
+name_of_attribute schema id = list_at (map attribute_name schema.attributes) id.0
+
+-- ["dangling",arrow,part], ["no_value",attribute,right part], ["too_large",object]
 abbrev pub refusal_data : Presentation → Refusal → Data
 refusal_data schema (Dangling arrow part) = list_data (string (codes "dangling") ∷ string (name_of_arrow schema arrow) ∷ count_data part ∷ [])
+refusal_data schema (NoValue part attr) = list_data (string (codes "no_value") ∷ string (name_of_attribute schema attr) ∷ count_data part ∷ [])
 refusal_data schema (TooLarge id) = list_data (string (codes "too_large") ∷ string (name_of_object schema id) ∷ [])
 
 -- [tuple,obstruction]
@@ -95,7 +100,8 @@ end_data end fuel lists sizes =
     (member (codes "lists") (list_data (map count_data lists))
     (member (codes "sizes") (list_data (map count_data sizes)) no_members))))
 
--- the obstruction names an arrow or an object of the schema
+-- the obstruction names an arrow, an attribute or an object of the schema
 abbrev pub IsKnown : Presentation → Refusal → Type 0
 IsKnown schema (Dangling arrow part) = arrow.0 < length schema.arrows
+IsKnown schema (NoValue part attr) = attr.0 < length schema.attributes
 IsKnown schema (TooLarge id) = id.0 < length schema.objects

@@ -3,12 +3,12 @@
 ghost use Rattle.std.specs.Prelude.{◌≡◌, ◌<◌, IfOk, length, map};
 ghost use Rattle.std.specs.List.{All};
 ghost use Rattle.serde_json.specs.View.{view};
-ghost use Rattle.rw_print.specs.Lines.{name_of_arrow, name_of_object, refusal_data, refused_data, IsKnown};
+ghost use Rattle.rw_print.specs.Lines.{name_of_arrow, name_of_attribute, name_of_object, refusal_data, refused_data, IsKnown};
 
 use crate::line::counts_of;
 use rw_pattern::Tuple;
 use rw_rule::Refusal;
-use rw_schema::{ArrowId, ObjectId, Schema};
+use rw_schema::{ArrowId, AttrId, ObjectId, Schema};
 use serde_json::{Value, json};
 use std::alloc::{AllocError, Global};
 
@@ -19,6 +19,13 @@ fn arrow_name(schema: &Schema, arrow: ArrowId) -> &str
     schema.arrow(arrow).name.as_str()
 }
 
+fn attribute_name(schema: &Schema, attribute: AttrId) -> &str
+    requires { attribute.0 < length schema.now.attributes }
+    ensures { result.now ≡ name_of_attribute schema.now attribute }
+{
+    schema.attr(attribute).name.as_str()
+}
+
 fn object_name(schema: &Schema, object: ObjectId) -> &str
     requires { object.0 < length schema.now.objects }
     ensures { result.now ≡ name_of_object schema.now object }
@@ -26,7 +33,8 @@ fn object_name(schema: &Schema, object: ObjectId) -> &str
     schema.object(object).as_str()
 }
 
-/// `["dangling",arrow,part]` or `["too_large",object]`, with the name of the arrow or the object.
+/// `["dangling",arrow,part]`, `["no_value",attribute,part]` or `["too_large",object]`, with the name of the arrow, the
+/// attribute or the object.
 fn refusal_value(alloc: Global, schema: &Schema, refusal: &Refusal) -> Result<Value, AllocError>
     requires { IsKnown schema.now refusal.now }
     ensures { IfOk result (λ value. view value ≡ refusal_data schema.now refusal.now) }
@@ -34,6 +42,9 @@ fn refusal_value(alloc: Global, schema: &Schema, refusal: &Refusal) -> Result<Va
     match refusal {
         Refusal::Dangling { arrow, part } => {
             json!(in alloc; ["dangling", arrow_name(schema, *arrow), *part])
+        }
+        Refusal::NoValue { right_part, attr } => {
+            json!(in alloc; ["no_value", attribute_name(schema, *attr), *right_part])
         }
         Refusal::TooLarge { object } => {
             json!(in alloc; ["too_large", object_name(schema, *object)])

@@ -18,7 +18,7 @@ use serde_json::{Value, json};
 use std::alloc::{AllocError, Global};
 
 /// The line `{"box":place,"lists":[[number,gone,new],..],"match":tuple or null,"refused":[[tuple,obstruction],..],"rule":name}`.
-/// Arrows and objects of obstructions are printed by name.
+/// Arrows, attributes and objects of obstructions are printed by name.
 pub fn step_line(
     alloc: Global,
     schema: &Schema,

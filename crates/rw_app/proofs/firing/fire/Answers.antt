@@ -1,6 +1,7 @@
-use Rattle.std.proofs.Common.{List, All, subst}
+use Rattle.std.proofs.Common.{List, All, length, subst}
 use Rattle.std.proofs.lemmas.List.Elements.{All-head}
 use Rattle.rw_schema.specs.Presentation.{signature_of}
+use Rattle.rw_terms.specs.OpEntries.{entries}
 use Rattle.rw_rule.specs.RuleFaults.{IsRuleOver}
 use Rattle.rw_rule.specs.RuleLists.{RuleLists}
 use Rattle.rw_app.proofs.firing.fire.Goals as goal
@@ -8,4 +9,5 @@ use Rattle.rw_app.proofs.firing.fire.Goals as goal
 pub pick_first-requires-clause-rule : goal.pick_first-requires-clause-rule
 pick_first-requires-clause-rule c =
     let C = signature_of c.args.document.now.schema in
-    All-head (IsRuleOver C) c.args.rule.now c.requires.rule.0 (subst (λ (rules : List RuleLists). All (IsRuleOver C) rules) c.requires.rule.1 c.requires.sound.rules)
+    let ops = length (entries c.args.ops.now) in
+    All-head (IsRuleOver C ops) c.args.rule.now c.requires.rule.0 (subst (λ (rules : List RuleLists). All (IsRuleOver C ops) rules) c.requires.rule.1 c.requires.sound.rules)

@@ -4,4 +4,4 @@ use Rattle.rw_app.proofs.SomeRun.{some_run}
 use Rattle.rw_app.proofs.laws.has_one_run.Goals as goal
 
 pub returns : goal.returns
-returns c = (some_run (document_lists c.args.document.now) c.args.fuel, one_run (document_lists c.args.document.now) c.args.fuel)
+returns c codes = (some_run codes (document_lists c.args.document.now) c.args.fuel, one_run codes (document_lists c.args.document.now) c.args.fuel)

@@ -1,11 +1,13 @@
 -- The matches that were tried are refused, each with its obstruction.
 use Rattle.std.proofs.Common.{◌≡◌, take}
 use Rattle.rw_schema.specs.Presentation.{signature_of}
+use Rattle.rw_terms.specs.OpEntries.{entries}
+use Rattle.rw_terms.specs.OpTables.{codes_of}
 use Rattle.rw_app.specs.Runs.{AreRefused, tuples_of}
 use Rattle.rw_app.proofs.pick.pick_first.Given as goal
 
 abbrev pub invariant-loop-tuple : goal.invariant-loop-tuple
 invariant-loop-tuple l = record {
   tuples : tuples_of l.refused.items ≡ take l.tuple-index l.found;
-  refused : AreRefused (signature_of l.schema) l.rule l.table.rows l.refused.items;
+  refused : AreRefused (signature_of l.schema) (codes_of (entries l.ops)) l.rule l.table.rows l.refused.items;
 }

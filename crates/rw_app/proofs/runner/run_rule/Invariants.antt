@@ -1,5 +1,7 @@
 -- The firings so far lead to the present state, from which each run goes on.
 use Rattle.std.proofs.Common.{List}
+use Rattle.rw_terms.specs.OpEntries.{entries}
+use Rattle.rw_terms.specs.OpTables.{codes_of}
 use Rattle.rw_docrule.specs.Models.{document_lists}
 use Rattle.rw_app.specs.Runners.{HasBegun, IsWorld}
 use Rattle.rw_app.specs.Runs.{Firing}
@@ -8,7 +10,7 @@ use Rattle.rw_app.proofs.runner.run_rule.Given as goal
 abbrev pub invariant-loop-left : goal.invariant-loop-left
 invariant-loop-left l = record {
   firings : List Firing;
-  begun : HasBegun (document_lists l.document) l.fn.fuel l.left l.fn.start.table.rows l.world.table.rows l.text.items firings;
+  begun : HasBegun (codes_of (entries l.ops)) (document_lists l.document) l.fn.fuel l.left l.fn.start.table.rows l.world.table.rows l.text.items firings;
   world : IsWorld (document_lists l.document) l.world;
 }
 
