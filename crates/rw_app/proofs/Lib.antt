@@ -10,7 +10,6 @@ pub mod OneRun
 pub mod Picking
 pub mod Seeds
 pub mod SomeRun
-pub mod SoundGoals
 pub mod Telling
 pub mod Tried
 pub mod Words

@@ -1,9 +1,14 @@
 ghost use Rattle.std.specs.Prelude.{◌≡◌, ◌<◌};
+ghost use Rattle.rw_app.specs.Operations.{usual_operations};
+ghost use Rattle.rw_terms.specs.OpEntries.{entries};
+ghost use Rattle.rw_terms.specs.OpValues.{op_value};
 
 use crate::documents::{CUT, LOOP, PATH, PETRI, TRIANGLE, UNIT};
 use rw_app::{Status, run_words};
 use rw_outside::{MemSink, MemSource, Sink, Source};
+use rw_schema::Text;
 use rw_steps::Steps;
+use rw_terms::{Op, OpCode, OpTable, Run};
 use std::alloc::Global;
 use std::marker::Brand;
 use std::process::Abort;
@@ -13,30 +18,62 @@ use std::test::Fail;
 pub const USAGE: &str =
     "usage: rewrite matches NAME | run [--fuel N] [--seed N] | check | pushout | pullback | sample N\n";
 
+/// The operations that the program has.
+const OPERATIONS: [(&str, OpCode); 8] = [
+    ("add", OpCode::Add),
+    ("sub", OpCode::Sub),
+    ("mul", OpCode::Mul),
+    ("div", OpCode::Div),
+    ("rem", OpCode::Rem),
+    ("min", OpCode::Min),
+    ("max", OpCode::Max),
+    ("less", OpCode::Less),
+];
+
 /// Runs the words over both ends.
 fn run<S: Source, K: Sink, L: Ledger>(
     alloc: Global,
     words: &Vec<String>,
     source: &mut S,
     sink: &mut K,
+    ops: &OpTable,
     blank: Blank,
 ) -> Status
+    requires ops { entries ops.now ≡ usual_operations }
     requires name { blank.name ≡ L.name }
     requires parts { blank.parts ≡ L.parts }
     requires some { 0 < L.parts }
 {
     let mut steps: Steps<L> = Steps::new(blank);
-    run_words(alloc, words, source, sink, &mut steps)
+    run_words(alloc, words, source, sink, ops, &mut steps)
 }
 
-/// Runs the words over both ends, where nobody reads the steps.
+/// Runs the words over both ends with the program's operations, where nobody reads the steps.
 fn finish<S: Source, K: Sink>(
     alloc: Global,
     words: &Vec<String>,
     source: &mut S,
     sink: &mut K,
-) -> Status {
-    run::<S, K, Brand>(alloc, words, source, sink, Blank::new(1))
+) -> Result<Status, Fail> {
+    let mut ops = OpTable::new(alloc);
+    for (name, code) in OPERATIONS {
+        let run: Run = Box::new(
+            alloc,
+            move |x: i64, y: i64| -> Option<i64>
+                ensures { result ≡ op_value code x y }
+            { code.value(x, y) },
+        )?;
+        let name = Text::of(alloc, name)?;
+        ops.add(alloc, Op::new(name, code, run))?;
+    }
+    Ok(run::<S, K, Brand>(
+        alloc,
+        words,
+        source,
+        sink,
+        &ops,
+        Blank::new(1),
+    ))
 }
 
 fn owned(alloc: Global, words: &[&str]) -> Result<Vec<String>, Fail> {
@@ -59,7 +96,7 @@ pub fn check(
     let words = owned(alloc, words)?;
     let mut source = MemSource::new(document.to_vec(alloc)?, 7, Vec::new(alloc));
     let mut sink = MemSink::new(alloc, 4096, Vec::new(alloc))?;
-    let status = finish(alloc, &words, &mut source, &mut sink);
+    let status = finish(alloc, &words, &mut source, &mut sink)?;
     assert_eq!(rt; status.number(), number, "{text}");
     assert!(rt; sink.held() == text.as_bytes(), "{text}");
     Ok(())
@@ -142,7 +179,7 @@ fn faulty(
     let document = PATH.as_bytes().to_vec(alloc)?;
     let mut source = MemSource::new(document, 64, [failing_take].to_vec(alloc)?);
     let mut sink = MemSink::new(alloc, room, [failing_put].to_vec(alloc)?)?;
-    let status = finish(alloc, &words, &mut source, &mut sink);
+    let status = finish(alloc, &words, &mut source, &mut sink)?;
     Ok((status, sink.held().to_vec(alloc)?))
 }
 
@@ -179,7 +216,7 @@ fn long_inputs_are_refused(rt: HostRuntime) -> Result<(), Fail> {
     let spaces = vec![in alloc; b' '; 67_108_865]?;
     let mut source = MemSource::new(spaces, 67_108_865, Vec::new(alloc));
     let mut sink = MemSink::new(alloc, 100, Vec::new(alloc))?;
-    let status = finish(alloc, &words, &mut source, &mut sink);
+    let status = finish(alloc, &words, &mut source, &mut sink)?;
     assert_eq!(rt; status, Status::TooLong);
     assert!(rt; sink.held().is_empty());
     Ok(())

@@ -8,7 +8,7 @@ use Rattle.rw_app.proofs.Seeds.{for_seed}
 use Rattle.rw_app.proofs.answer.answer_about.Goals as goal
 
 pub returns-in-Run : goal.returns-in-Run
-returns-in-Run c =
+returns-in-Run g c =
     rw c.in-Run.is
     (for_seed c.run_document.result (λ seed answer. IsAnswerTo (entries c.args.ops.now) (run c.in-Run.fuel seed) (Ok (document_lists c.args.document.now)) (text_of_answer answer))
     c.in-Run.seed c.run_document.ensures)

@@ -8,7 +8,7 @@ use Rattle.rw_app.proofs.Differences.{none_changed}
 use Rattle.rw_app.proofs.firing.stay.Goals as goal
 
 pub returns : goal.returns
-returns c =
+returns g c =
     let document = document_lists c.args.document.now in
     let rule = c.args.rule.now in
     let rows = c.args.world.table.rows in

@@ -9,20 +9,20 @@ use Rattle.rw_app.proofs.Lengths.{count_vectors}
 use Rattle.rw_app.proofs.firing.step.Goals as goal
 
 pub differences-requires-clause-lists : goal.differences-requires-clause-lists
-differences-requires-clause-lists c =
+differences-requires-clause-lists g c =
     let document = document_lists c.args.document.now in
     let before = count_vectors (λ list. list.items) document c.args.world.table.rows c.args.world.lists.items c.requires.world.fresh in
     let after = count_vectors (λ list. list.items) document c.args.applied.after.rows c.in_ok-lists.lists.items c.in_ok-lists.ensures in
     omega (arith, ap length c.as_slice.ensures.value, ap length c.as_slice-2.ensures.value)
 
 pub differences-requires-clause-few : goal.differences-requires-clause-few
-differences-requires-clause-few c =
+differences-requires-clause-few g c =
     let document = document_lists c.args.document.now in
     let before = count_vectors (λ list. list.items) document c.args.world.table.rows c.args.world.lists.items c.requires.world.fresh in
     omega (arith, ap length c.as_slice.ensures.value, c.requires.sound.few_rules, c.requires.sound.few_watches)
 
 pub returns : goal.returns
-returns c =
+returns g c =
     let document = document_lists c.args.document.now in
     let rule = c.args.rule.now in
     let before = c.args.world.table.rows in

@@ -13,7 +13,7 @@ push_watches-requires-clause-watches c =
     let document = c.args.document.now in
     let C = signature_of document.schema in
     subst (λ (watches : List Watch). All (λ watch. IsGoalOver C (goal_of_parts watch.goal)) watches) (sym c.as_slice-2.ensures.value)
-    (each_watch (λ (watch : WatchLists). IsGoalOver C watch.goal) document.watches.items c.requires.sound.watches)
+    (each_watch (λ (watch : WatchLists). IsGoalOver C watch.goal) document.watches.items c.requires.goals.watches)
 
 pub returns : goal.returns
 returns c =

@@ -15,7 +15,7 @@ use Rattle.rw_app.proofs.Picking.{refused_more, picked_there}
 use Rattle.rw_app.proofs.pick.pick_first.Goals as goal
 
 pub loop-tuple-preserved : goal.loop-tuple-preserved
-loop-tuple-preserved c =
+loop-tuple-preserved g c =
     let C = signature_of c.args.schema.now in
     let codes = codes_of (entries c.args.ops.now) in
     let rule = c.args.rule.now in
@@ -34,7 +34,7 @@ loop-tuple-preserved c =
     }
 
 pub returns-in-Ready-clause-pick : goal.returns-in-Ready-clause-pick
-returns-in-Ready-clause-pick c =
+returns-in-Ready-clause-pick g c =
     let C = signature_of c.args.schema.now in
     let codes = codes_of (entries c.args.ops.now) in
     let rule = c.args.rule.now in
@@ -48,11 +48,11 @@ returns-in-Ready-clause-pick c =
     rw (c.in_ok-tuple-in-Ready.ensures) (((drop (c.loop-tuple.tuple-index + 1) c.args.found.now, all ∙ there), c.loop-tuple.invariant.refused, ready.0), ready.1)
 
 pub returns-in-Ready-clause-known : goal.returns-in-Ready-clause-known
-returns-in-Ready-clause-known c =
+returns-in-Ready-clause-known g c =
     let each : length c.args.table.now.rows.next ≡ length c.args.schema.now.objects = omega (arith, ap (λ (rows : RowLists). length rows.next) c.rows.ensures.value) in
     refused_known c.args.schema.now (codes_of (entries c.args.ops.now)) c.args.rule.now c.args.table.now.rows c.loop-tuple.refused.items each c.loop-tuple.invariant.refused
 
 pub returns-clause-known : goal.returns-clause-known
-returns-clause-known c =
+returns-clause-known g c =
     let each : length c.args.table.now.rows.next ≡ length c.args.schema.now.objects = omega (arith, ap (λ (rows : RowLists). length rows.next) c.rows.ensures.value) in
     refused_known c.args.schema.now (codes_of (entries c.args.ops.now)) c.args.rule.now c.args.table.now.rows c.loop-tuple.refused.items each c.loop-tuple.invariant.refused

@@ -7,7 +7,7 @@ use Rattle.rw_app.specs.Runs.{AreRefused, tuples_of}
 use Rattle.rw_app.proofs.pick.pick_first.Given as goal
 
 abbrev pub invariant-loop-tuple : goal.invariant-loop-tuple
-invariant-loop-tuple l = record {
+invariant-loop-tuple g l = record {
   tuples : tuples_of l.refused.items ≡ take l.tuple-index l.found;
   refused : AreRefused (signature_of l.schema) (codes_of (entries l.ops)) l.rule l.table.rows l.refused.items;
 }

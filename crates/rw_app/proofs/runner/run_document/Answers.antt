@@ -6,7 +6,7 @@ use Rattle.rw_app.proofs.Telling.{run_told}
 use Rattle.rw_app.proofs.runner.run_document.Goals as goal
 
 pub returns : goal.returns
-returns c =
+returns g c =
     let document = document_lists c.args.document.now in
     let codes = codes_of (entries c.args.ops.now) in
     let run = c.in_ok-ran.ensures in

@@ -7,7 +7,7 @@ use Rattle.rw_app.proofs.Leading.{begun_more, run_ended, run_spent}
 use Rattle.rw_app.proofs.runner.run_rule.Goals as goal
 
 pub loop-left-preserved : goal.loop-left-preserved
-loop-left-preserved c =
+loop-left-preserved g c =
     let document = document_lists c.args.document.now in
     let codes = codes_of (entries c.args.ops.now) in
     let firing = c.in_ok-fired.ensures in
@@ -22,7 +22,7 @@ loop-left-preserved c =
     }
 
 pub returns-then-not-fired : goal.returns-then-not-fired
-returns-then-not-fired c =
+returns-then-not-fired g c =
     let document = document_lists c.args.document.now in
     let codes = codes_of (entries c.args.ops.now) in
     let firing = c.in_ok-fired.ensures in
@@ -38,7 +38,7 @@ returns-then-not-fired c =
     )
 
 pub returns : goal.returns
-returns c =
+returns g c =
     let document = document_lists c.args.document.now in
     let codes = codes_of (entries c.args.ops.now) in
     let none : c.loop-left.left ≡ 0 = omega arith in

@@ -8,11 +8,11 @@ use Rattle.rw_app.specs.Runs.{Firing}
 use Rattle.rw_app.proofs.runner.run_rule.Given as goal
 
 abbrev pub invariant-loop-left : goal.invariant-loop-left
-invariant-loop-left l = record {
+invariant-loop-left g l = record {
   firings : List Firing;
   begun : HasBegun (codes_of (entries l.ops)) (document_lists l.document) l.fn.fuel l.left l.fn.start.table.rows l.world.table.rows l.text.items firings;
   world : IsWorld (document_lists l.document) l.world;
 }
 
 abbrev pub decreases-loop-left : goal.decreases-loop-left
-decreases-loop-left l = l.left
+decreases-loop-left g l = l.left

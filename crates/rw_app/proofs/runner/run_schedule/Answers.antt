@@ -9,7 +9,7 @@ use Rattle.rw_app.specs.Runners.{at_first}
 use Rattle.rw_app.proofs.runner.run_schedule.Goals as goal
 
 pub returns-in-None : goal.returns-in-None
-returns-in-None c =
+returns-in-None g c =
     let document = document_lists c.args.document.now in
     let codes = codes_of (entries c.args.ops.now) in
     let none : slice_get c.args.document.now.rules.items 0 ≡ None = rw c.deref.ensures.value at (sym c.first.ensures.value ∙ ap option_copied c.in-None.is) in (

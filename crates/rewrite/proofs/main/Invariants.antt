@@ -1,5 +1,0 @@
--- The ledger is the blank one.
-use Rattle.rewrite.proofs.main.Given as goal
-
-abbrev pub ghosts-run : goal.ghosts-run
-ghosts-run a = record { name = a.blank.name; parts = a.blank.parts }
