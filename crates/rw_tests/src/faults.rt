@@ -15,9 +15,7 @@ const DOCUMENTS: &str = r#"
 {"format":-0,"schema":{"objects":[],"arrows":[]}} => {"at":[0,0,0],"fault":2,"section":"whole"}
 {"format":2,"schema":{"objects":[],"arrows":[]}} => {"at":[0,0,0],"fault":3,"section":"whole"}
 {"format":18446744073709551615,"schema":[]} => {"at":[0,0,0],"fault":3,"section":"whole"}
-{"format":1,"schema":{"objects":[],"arrows":[]},"schedule":[]} => {"at":[0,0,0],"fault":16,"section":"whole"}
-{"format":1,"schema":{"objects":["V"],"arrows":[],"attributes":[["w","V","int"],["t","V","text"]]},"watches":[{"name":"x","pattern":{"parts":[1],"rows":[],"cells":[["w",0,{"var":"a"}],["t",0,{"var":"a"}]]}}]} => {"at":[0,0,0],"fault":16,"section":"whole"}
-{"format":1,"schema":{"objects":["V"],"arrows":[],"attributes":[["w","V","int"]]},"rules":[{"name":"r","kind":"dpo","left":{"parts":[1],"rows":[]},"keep":{"parts":[1],"rows":[]},"right":{"parts":[1],"rows":[]},"l":[[0]],"r":[[0]]}]} => {"at":[0,0,0],"fault":16,"section":"whole"}"#;
+{"format":1,"schema":{"objects":[],"arrows":[]},"schedule":[]} => {"at":[0,0,0],"fault":16,"section":"whole"}"#;
 
 /// Schemas, and the line of the document with each.
 const SCHEMAS: &str = r#"
@@ -70,7 +68,7 @@ const INSTANCES: &str = r#"
 
 /// Checks that each document, made of these two parts around a case, gets the line of the case. It answers how many
 /// cases there are.
-fn check_cases(
+pub fn check_cases(
     rt: &impl Abort,
     alloc: Global,
     before: &str,
@@ -93,7 +91,7 @@ fn check_cases(
 #[test]
 fn faults_of_the_top_object(rt: HostRuntime) -> Result<(), Fail> {
     let count = check_cases(&rt, rt.alloc(), "", DOCUMENTS, "")?;
-    assert_eq!(rt; count, 11);
+    assert_eq!(rt; count, 9);
     Ok(())
 }
 
