@@ -1,1 +1,19 @@
-
+pub mod ArrowValues
+pub mod Ascents
+pub mod Comatch
+pub mod Equations
+pub mod Firsts
+pub mod Listed
+pub mod NamesAfter
+pub mod NewNames
+pub mod NewParts
+pub mod PartNames
+pub mod Parts
+pub mod PlainMatch
+pub mod Ranges
+pub mod Removed
+pub mod Room
+pub mod RuleMaps
+pub mod RuleParts
+pub mod Sound
+pub mod Tables

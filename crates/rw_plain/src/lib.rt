@@ -1,8 +1,17 @@
-//! Stand-in.
+//! The step of a double-pushout rule whose maps are injective, at an injective match.
 #![tactic(auto)]
 
+mod dangling;
+mod growth;
+mod matched;
+mod names;
+mod rows;
 mod step;
+mod values;
 mod verdict;
 
 pub use step::try_match;
 pub use verdict::Verdict;
+
+#[cfg(test)]
+mod tests;

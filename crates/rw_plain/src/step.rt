@@ -12,10 +12,13 @@ ghost use Rattle.rw_plain.specs.Obstructions.{IsVerdict};
 ghost use Rattle.rw_rule.specs.PlainRules.{is_plain};
 
 use crate::Verdict;
+use crate::dangling::first_dangling;
+use crate::growth::first_too_large;
+use crate::rows::rows_after;
 use rw_pattern::Tuple;
 use rw_rule::Rule;
-use rw_schema::{OutOfMemory, Schema};
-use rw_table::Table;
+use rw_schema::{OutOfMemory, Rows, Schema};
+use rw_table::{Table, TableFault};
 use rw_terms::OpTable;
 use std::alloc::Global;
 
@@ -41,5 +44,25 @@ pub fn try_match(
     requires tuple { Contains (matches (signature_of schema.now) rule.now.goal.left rule.now.goal.monic (instance_of_table table.now)) tuple.now }
     ensures { IfOk result (IsVerdict (signature_of schema.now) (codes_of (entries ops.now)) rule.now tuple.now table.now.rows) }
 {
-    Err(OutOfMemory)
+    if let Some(refusal) = first_dangling(schema, rule, table, tuple) {
+        return Ok(Verdict::Refused(refusal));
+    }
+    if let Some(refusal) = first_too_large(schema, rule, table.rows()) {
+        return Ok(Verdict::Refused(refusal));
+    }
+    let rows = rows_after(alloc, schema, rule, table, tuple)?;
+    let after = table_of(alloc, schema, rows)?;
+    Ok(Verdict::Ready(after))
+}
+
+/// The table with lists that are an instance of the schema.
+fn table_of(alloc: Global, schema: &Schema, rows: Rows) -> Result<Table, OutOfMemory>
+    requires { table_fault (signature_of schema.now) rows ≡ None }
+    ensures { IfOk result (λ table. table ≡ record { signature = signature_of schema.now; rows = rows }) }
+{
+    match Table::new(alloc, schema, rows) {
+        Ok(table) => Ok(table),
+        Err(TableFault::OutOfMemory) => Err(OutOfMemory),
+        Err(_) => unreachable!(),
+    }
 }

@@ -1,0 +1,36 @@
+-- An arrow that dangles is the first, or the first is one of those that are left.
+use Rattle.std.proofs.Common.{◌≡◌, ℕ, Some, List, map, slice_get, refl, sym, ◌∙◌}
+use Rattle.rw_schema.specs.declared.parts.ArrowDef.{ArrowDef}
+use Rattle.rw_schema.specs.Presentation.{signature_of, ends_of_arrow}
+use Rattle.rw_pattern.proofs.Shapes.{ends_at}
+use Rattle.rw_table.specs.Tabled.{instance_of_table}
+use Rattle.rw_plain.specs.Obstructions.{dangling_at}
+use Rattle.rw_plain.proofs.Firsts.{answer_here, answer_later}
+use Rattle.rw_plain.proofs.RuleParts.{listed_arrow_known}
+use Rattle.rw_plain.proofs.dangling.first_dangling.Goals as goal
+
+pub dangling_at-requires-clause-arrow : goal.dangling_at-requires-clause-arrow
+dangling_at-requires-clause-arrow c =
+    let arrows : List ArrowDef = c.args.schema.now.arrows in
+    rw c.requires.table (listed_arrow_known (signature_of c.args.schema.now) c.args.rule.now c.arrow_list-ends-items.result.now arrows c.loop-number.number c.ends-item.result
+    c.arrow_list-ends-items.ensures.category c.requires.rule c.arrow_list-ends-items.ensures.value refl c.loop-number-test.true c.ends-item.is)
+
+pub returns-in-Some : goal.returns-in-Some
+returns-in-Some c =
+    let arrows : List ArrowDef = c.args.schema.now.arrows in
+    let number : ℕ = c.loop-number.number in
+    let there : slice_get (map ends_of_arrow arrows) number ≡ Some (ends_of_arrow c.ends-item.result) =
+    ends_at c.arrow_list-ends-items.result.now arrows number c.ends-item.result c.arrow_list-ends-items.ensures.value c.loop-number-test.true c.ends-item.is in
+    sym (c.loop-number.invariant
+    ∙ answer_here (dangling_at c.args.rule.now c.args.tuple.now (instance_of_table c.args.table.now)) (map ends_of_arrow arrows) number (ends_of_arrow c.ends-item.result)
+    c.in-Some.refusal there (sym c.in-Some.ensures))
+
+pub loop-number-preserved : goal.loop-number-preserved
+loop-number-preserved c =
+    let arrows : List ArrowDef = c.args.schema.now.arrows in
+    let number : ℕ = c.loop-number.number in
+    let there : slice_get (map ends_of_arrow arrows) number ≡ Some (ends_of_arrow c.ends-item.result) =
+    ends_at c.arrow_list-ends-items.result.now arrows number c.ends-item.result c.arrow_list-ends-items.ensures.value c.loop-number-test.true c.ends-item.is in
+    c.loop-number.invariant
+    ∙ answer_later (dangling_at c.args.rule.now c.args.tuple.now (instance_of_table c.args.table.now)) (map ends_of_arrow arrows) number (ends_of_arrow c.ends-item.result)
+    there (sym c.dangling_at.ensures ∙ c.in_default.is)

@@ -1,0 +1,92 @@
+//! The new parts of the right side, and whether there is room for their names.
+
+ghost use Rattle.std.specs.Prelude.{◌≡◌, ◌<◌, ◌≤◌, IfOk, not, nat_le, length};
+ghost use Rattle.rw_schema.specs.Presentation.{signature_of};
+ghost use Rattle.rw_rule.specs.RuleFaults.{IsRuleOver};
+ghost use Rattle.rw_plain.specs.Obstructions.{too_large, most_names};
+ghost use Rattle.rw_plain.specs.PlainStep.{is_image, new_parts as new_parts_of, new_before as new_parts_before, next_after as next_after_step};
+ghost use Rattle.rw_plain.specs.RuleParts.{HasObject};
+
+use crate::matched::has;
+use rw_rule::{Refusal, Rule};
+use rw_schema::{ObjectId, OutOfMemory, Rows, Schema};
+use std::alloc::Global;
+
+/// The greatest next name.
+const MOST_NAMES: u64 = 16_777_216;
+
+/// The new parts of an object, ascending.
+pub(crate) fn new_parts(
+    alloc: Global,
+    rule: &Rule,
+    object: ObjectId,
+) -> Result<Vec<u32>, OutOfMemory>
+    requires { HasObject rule.now object.0 }
+    ensures { IfOk result (λ parts. parts.items ≡ new_parts_of rule.now object.0) }
+{
+    let mut parts = Vec::new(alloc);
+    for part in 0..rule.right().size(object) {
+        if is_new(rule, object, part) {
+            parts.push(part)?;
+        }
+    }
+    Ok(parts)
+}
+
+/// How many new parts of an object there are before a part.
+pub(crate) fn new_before(rule: &Rule, object: ObjectId, part: u32) -> u32
+    requires { HasObject rule.now object.0 }
+    ensures value { result ≡ new_parts_before rule.now object.0 part }
+    ensures few { result ≤ part }
+{
+    let mut count = 0;
+    for other in 0..part {
+        if is_new(rule, object, other) {
+            count += 1;
+        }
+    }
+    count
+}
+
+/// Whether the part of the right side is new.
+fn is_new(rule: &Rule, object: ObjectId, part: u32) -> bool
+    requires { HasObject rule.now object.0 }
+    ensures { result ≡ not (is_image rule.now.r object.0 part) }
+{
+    !has(rule.r().images(object), part)
+}
+
+/// The next name of an object after the step.
+pub(crate) fn next_after(rule: &Rule, rows: &Rows, object: ObjectId) -> u32
+    requires next { object.0 < length rows.now.next }
+    requires object { HasObject rule.now object.0 }
+    requires room { next_after_step rule.now rows.now.next object.0 ≤ most_names }
+    ensures { result ≡ next_after_step rule.now rows.now.next object.0 }
+{
+    rows.next(object) + new_before(rule, object, rule.right().size(object))
+}
+
+/// Whether the next name of an object after the step is at most the greatest one.
+fn has_room(rule: &Rule, rows: &Rows, object: ObjectId) -> bool
+    requires next { object.0 < length rows.now.next }
+    requires object { HasObject rule.now object.0 }
+    ensures { result ≡ nat_le (next_after_step rule.now rows.now.next object.0) most_names }
+{
+    let count = new_before(rule, object, rule.right().size(object));
+    u64::from(rows.next(object)) + u64::from(count) <= MOST_NAMES
+}
+
+/// The first object whose next name would pass the greatest one.
+pub(crate) fn first_too_large(schema: &Schema, rule: &Rule, rows: &Rows) -> Option<Refusal>
+    requires rule { IsRuleOver (signature_of schema.now) rule.now }
+    requires next { length rows.now.next ≡ length schema.now.objects }
+    ensures { result ≡ too_large rule.now rows.now.next }
+{
+    for number in 0..schema.objects() {
+        let object = ObjectId(number as u16);
+        if !has_room(rule, rows, object) {
+            return Some(Refusal::TooLarge { object });
+        }
+    }
+    None
+}

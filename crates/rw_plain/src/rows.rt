@@ -1,0 +1,148 @@
+//! The lists after the step.
+
+ghost use Rattle.std.specs.Prelude.{◌≡◌, ◌≤◌, IfOk, true, None, Contains, length, map, sum};
+ghost use Rattle.std.specs.List.{range_with_len};
+ghost use Rattle.rw_schema.specs.First.{map_in};
+ghost use Rattle.rw_schema.specs.Presentation.{signature_of, ends_of_arrow};
+ghost use Rattle.rw_schema.specs.Signature.{IsCategory};
+ghost use Rattle.rw_pattern.specs.Matches.{matches};
+ghost use Rattle.rw_table.specs.TableFaults.{table_fault};
+ghost use Rattle.rw_table.specs.Tabled.{IsOver, instance_of_table};
+ghost use Rattle.rw_rule.specs.PlainRules.{is_plain};
+ghost use Rattle.rw_rule.specs.RuleFaults.{IsRuleOver};
+ghost use Rattle.rw_plain.specs.Obstructions.{dangling, too_large};
+ghost use Rattle.rw_plain.specs.PlainStep.{names_after as names_after_step, next_after as next_after_step, value_after as value_after_step, rows_after as rows_after_step};
+ghost use Rattle.rw_plain.specs.RuleParts.{HasArrow};
+
+use crate::growth::{new_parts, next_after};
+use crate::names::names_after;
+use crate::values::value_after;
+use rw_pattern::Tuple;
+use rw_rule::Rule;
+use rw_schema::{ArrowDef, ArrowId, ObjectId, OutOfMemory, Rows, Schema};
+use rw_table::Table;
+use std::alloc::Global;
+
+/// The lists of the instance after the step. There are no attributes, and no arrow dangles, so they are an instance.
+pub(crate) fn rows_after(
+    alloc: Global,
+    schema: &Schema,
+    rule: &Rule,
+    table: &Table,
+    tuple: &Tuple,
+) -> Result<Rows, OutOfMemory>
+    requires table { IsOver schema.now table.now }
+    requires rule { IsRuleOver (signature_of schema.now) rule.now }
+    requires plain { is_plain (signature_of schema.now) rule.now ≡ true }
+    requires tuple { Contains (matches (signature_of schema.now) rule.now.goal.left rule.now.goal.monic (instance_of_table table.now)) tuple.now }
+    requires closed { dangling (signature_of schema.now) rule.now tuple.now (instance_of_table table.now) ≡ None }
+    requires room { too_large rule.now table.now.rows.next ≡ None }
+    ensures rows { IfOk result (λ rows. rows ≡ rows_after_step (signature_of schema.now) rule.now tuple.now table.now.rows) }
+    ensures sound { IfOk result (λ rows. table_fault (signature_of schema.now) rows ≡ None) }
+{
+    let next = all_next_after(alloc, schema, rule, table.rows())?;
+    let names = all_names_after(alloc, schema, rule, table, tuple)?;
+    let arrows = schema.arrow_list();
+    let rows = all_rows_after(alloc, arrows, rule, table, tuple, names.as_slice())?;
+    let cells = Vec::new(alloc);
+    Ok(Rows::from_lists(names, rows, cells, next))
+}
+
+/// Of each object the names after the step.
+fn all_names_after(
+    alloc: Global,
+    schema: &Schema,
+    rule: &Rule,
+    table: &Table,
+    tuple: &Tuple,
+) -> Result<Vec<Vec<u32>>, OutOfMemory>
+    requires table { IsOver schema.now table.now }
+    requires rule { IsRuleOver (signature_of schema.now) rule.now }
+    requires tuple { length tuple.now ≡ sum rule.now.goal.left.sizes }
+    requires sound { table_fault table.now.signature table.now.rows ≡ None }
+    requires room { too_large rule.now table.now.rows.next ≡ None }
+    ensures { IfOk result (λ names. map (λ list. list.items) names.items
+        ≡ map (names_after_step rule.now tuple.now (instance_of_table table.now) table.now.rows.next) (range_with_len 0 (length schema.now.objects))) }
+{
+    let mut names = Vec::new(alloc);
+    for number in 0..schema.objects() {
+        let object = ObjectId(number as u16);
+        names.push(names_after(alloc, rule, table, tuple, object)?)?;
+    }
+    Ok(names)
+}
+
+/// Of each object the next name after the step.
+fn all_next_after(
+    alloc: Global,
+    schema: &Schema,
+    rule: &Rule,
+    rows: &Rows,
+) -> Result<Vec<u32>, OutOfMemory>
+    requires rule { IsRuleOver (signature_of schema.now) rule.now }
+    requires next { length rows.now.next ≡ length schema.now.objects }
+    requires room { too_large rule.now rows.now.next ≡ None }
+    ensures { IfOk result (λ next. next.items ≡ map (next_after_step rule.now rows.now.next) (range_with_len 0 (length schema.now.objects))) }
+{
+    let mut next = Vec::new(alloc);
+    for number in 0..schema.objects() {
+        next.push(next_after(rule, rows, ObjectId(number as u16)))?;
+    }
+    Ok(next)
+}
+
+/// Of each arrow the row after the step. Of each object the names after the step are given.
+fn all_rows_after(
+    alloc: Global,
+    arrows: &[ArrowDef],
+    rule: &Rule,
+    table: &Table,
+    tuple: &Tuple,
+    names: &[Vec<u32>],
+) -> Result<Vec<Vec<u32>>, OutOfMemory>
+    requires few { length arrows.now ≤ 256 }
+    requires arrows { map ends_of_arrow arrows.now ≡ table.now.signature.arrows }
+    requires category { IsCategory table.now.signature }
+    requires rule { IsRuleOver table.now.signature rule.now }
+    requires tuple { length tuple.now ≡ sum rule.now.goal.left.sizes }
+    requires sound { table_fault table.now.signature table.now.rows ≡ None }
+    requires room { too_large rule.now table.now.rows.next ≡ None }
+    requires names { map (λ list. list.items) names.now
+        ≡ map (names_after_step rule.now tuple.now (instance_of_table table.now) table.now.rows.next) (range_with_len 0 table.now.signature.objects) }
+    ensures { IfOk result (λ rows. map (λ list. list.items) rows.items
+        ≡ map_in (λ arrow ends. map (value_after_step table.now.signature rule.now tuple.now (instance_of_table table.now) table.now.rows.next arrow)
+        (names_after_step rule.now tuple.now (instance_of_table table.now) table.now.rows.next ends.source.0)) 0 (map ends_of_arrow arrows.now)) }
+{
+    let mut rows = Vec::new(alloc);
+    for (number, ends) in arrows.iter().enumerate() {
+        let arrow = ArrowId(number as u16);
+        let names = names[ends.source.0 as usize].as_slice();
+        rows.push(row_after(alloc, rule, table, tuple, arrow, ends, names)?)?;
+    }
+    Ok(rows)
+}
+
+/// The images under an arrow after the step, one for each name that its source then has.
+fn row_after(
+    alloc: Global,
+    rule: &Rule,
+    table: &Table,
+    tuple: &Tuple,
+    arrow: ArrowId,
+    ends: &ArrowDef,
+    names: &[u32],
+) -> Result<Vec<u32>, OutOfMemory>
+    requires arrow { HasArrow table.now.signature rule.now arrow.0 (ends_of_arrow ends.now) }
+    requires tuple { length tuple.now ≡ sum rule.now.goal.left.sizes }
+    requires sound { table_fault table.now.signature table.now.rows ≡ None }
+    requires room { too_large rule.now table.now.rows.next ≡ None }
+    requires names { names.now ≡ names_after_step rule.now tuple.now (instance_of_table table.now) table.now.rows.next ends.now.source.0 }
+    ensures { IfOk result (λ row. row.items ≡ map (value_after_step table.now.signature rule.now tuple.now (instance_of_table table.now) table.now.rows.next arrow.0) names.now) }
+{
+    let new_parts = new_parts(alloc, rule, ends.source)?;
+    let mut row = Vec::new(alloc);
+    for name in names {
+        row.push(value_after(rule, table, tuple, arrow, ends, new_parts.as_slice(), *name))?;
+    }
+    Ok(row)
+}
