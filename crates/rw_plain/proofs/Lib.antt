@@ -1,9 +1,11 @@
 pub mod ArrowValues
 pub mod Ascents
+pub mod Attributes
 pub mod Comatch
 pub mod Equations
 pub mod Firsts
 pub mod Listed
+pub mod Mapped
 pub mod NamesAfter
 pub mod NewNames
 pub mod NewParts
@@ -15,5 +17,6 @@ pub mod Removed
 pub mod Room
 pub mod RuleMaps
 pub mod RuleParts
+pub mod SetPlaces
 pub mod Sound
 pub mod Tables

@@ -11,7 +11,7 @@ use Rattle.rw_pattern.specs.Matches.{matches, IsMatch}
 use Rattle.rw_pattern.specs.PatternLists.{map_of_tuple}
 use Rattle.rw_pattern.proofs.Naturality.{matches_natural}
 use Rattle.rw_rule.specs.PlainRules.{is_plain}
-use Rattle.rw_rule.specs.RuleFaults.{IsRuleOver}
+use Rattle.rw_plain.specs.RuleParts.{IsSpanOver}
 use Rattle.rw_rule.specs.RuleLists.{RuleLists}
 use Rattle.rw_plain.specs.Obstructions.{dangling}
 use Rattle.rw_plain.specs.PlainStep.{next_after, instance_after, rows_after}
@@ -36,9 +36,9 @@ values_after_there C rule tuple rows step a ends name there has =
     ]
 
 -- there are no attributes where a plain rule is applied
-free_of_attributes : (C : Signature) (rule : RuleLists) (c : ℕ) (ends : AttrEnds) → is_plain C rule ≡ true → slice_get C.attributes c ≡ Some ends → ⊥
+free_of_attributes : (C : Signature) (rule : RuleLists) (c : ℕ) (ends : AttrEnds) → is_plain rule ≡ true → slice_get C.attributes c ≡ Some ends → ⊥
 free_of_attributes C rule c ends plain there =
-    let nowhere : slice_get [] c ≡ Some ends = rw (plain_known C rule plain).free at there in
+    let nowhere : slice_get [] c ≡ Some ends = rw (plain_known rule plain).free at there in
     cc
 
 -- the instance after a step of a plain rule is one
@@ -52,7 +52,7 @@ step_instance C rule tuple rows step = record {
 
 -- the lists after a step at a match have no fault
 pub step_is_sound : (C : Signature) (rule : RuleLists) (tuple : List ℕ) (rows : RowLists) → IsCategory C → table_fault C rows ≡ None
-    → IsRuleOver C rule → is_plain C rule ≡ true
+    → IsSpanOver C rule → is_plain rule ≡ true
     → Contains (matches C rule.goal.left rule.goal.monic (instance_of C rows)) tuple → dangling C rule tuple (instance_of C rows) ≡ None
     → table_fault C (rows_after C rule tuple rows) ≡ None
 step_is_sound C rule tuple rows category sound over plain matched safe =

@@ -9,10 +9,9 @@ ghost use Rattle.rw_pattern.specs.Matches.{matches};
 ghost use Rattle.rw_table.specs.TableFaults.{table_fault};
 ghost use Rattle.rw_table.specs.Tabled.{IsOver, instance_of_table};
 ghost use Rattle.rw_rule.specs.PlainRules.{is_plain};
-ghost use Rattle.rw_rule.specs.RuleFaults.{IsRuleOver};
 ghost use Rattle.rw_plain.specs.Obstructions.{dangling, too_large};
 ghost use Rattle.rw_plain.specs.PlainStep.{names_after as names_after_step, next_after as next_after_step, value_after as value_after_step, rows_after as rows_after_step};
-ghost use Rattle.rw_plain.specs.RuleParts.{HasArrow};
+ghost use Rattle.rw_plain.specs.RuleParts.{IsSpanOver, HasArrow};
 
 use crate::growth::{new_parts, next_after};
 use crate::names::names_after;
@@ -32,8 +31,8 @@ pub(crate) fn rows_after(
     tuple: &Tuple,
 ) -> Result<Rows, OutOfMemory>
     requires table { IsOver schema.now table.now }
-    requires rule { IsRuleOver (signature_of schema.now) rule.now }
-    requires plain { is_plain (signature_of schema.now) rule.now ≡ true }
+    requires rule { IsSpanOver (signature_of schema.now) rule.now }
+    requires plain { is_plain rule.now ≡ true }
     requires tuple { Contains (matches (signature_of schema.now) rule.now.goal.left rule.now.goal.monic (instance_of_table table.now)) tuple.now }
     requires closed { dangling (signature_of schema.now) rule.now tuple.now (instance_of_table table.now) ≡ None }
     requires room { too_large rule.now table.now.rows.next ≡ None }
@@ -57,7 +56,7 @@ fn all_names_after(
     tuple: &Tuple,
 ) -> Result<Vec<Vec<u32>>, OutOfMemory>
     requires table { IsOver schema.now table.now }
-    requires rule { IsRuleOver (signature_of schema.now) rule.now }
+    requires rule { IsSpanOver (signature_of schema.now) rule.now }
     requires tuple { length tuple.now ≡ sum rule.now.goal.left.sizes }
     requires sound { table_fault table.now.signature table.now.rows ≡ None }
     requires room { too_large rule.now table.now.rows.next ≡ None }
@@ -79,7 +78,7 @@ fn all_next_after(
     rule: &Rule,
     rows: &Rows,
 ) -> Result<Vec<u32>, OutOfMemory>
-    requires rule { IsRuleOver (signature_of schema.now) rule.now }
+    requires rule { IsSpanOver (signature_of schema.now) rule.now }
     requires next { length rows.now.next ≡ length schema.now.objects }
     requires room { too_large rule.now rows.now.next ≡ None }
     ensures { IfOk result (λ next. next.items ≡ map (next_after_step rule.now rows.now.next) (range_with_len 0 (length schema.now.objects))) }
@@ -103,7 +102,7 @@ fn all_rows_after(
     requires few { length arrows.now ≤ 256 }
     requires arrows { map ends_of_arrow arrows.now ≡ table.now.signature.arrows }
     requires category { IsCategory table.now.signature }
-    requires rule { IsRuleOver table.now.signature rule.now }
+    requires rule { IsSpanOver table.now.signature rule.now }
     requires tuple { length tuple.now ≡ sum rule.now.goal.left.sizes }
     requires sound { table_fault table.now.signature table.now.rows ≡ None }
     requires room { too_large rule.now table.now.rows.next ≡ None }
