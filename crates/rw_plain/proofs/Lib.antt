@@ -15,8 +15,10 @@ pub mod PlainMatch
 pub mod Ranges
 pub mod Removed
 pub mod Room
+pub mod RuleKnown
 pub mod RuleMaps
 pub mod RuleParts
+pub mod SetKinds
 pub mod SetPlaces
 pub mod Sound
 pub mod Tables

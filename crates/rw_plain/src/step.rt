@@ -15,6 +15,7 @@ use crate::Verdict;
 use crate::dangling::first_dangling;
 use crate::growth::first_too_large;
 use crate::rows::rows_after;
+use crate::set_values::{first_without_value, set_values};
 use rw_pattern::Tuple;
 use rw_rule::Rule;
 use rw_schema::{OutOfMemory, Rows, Schema};
@@ -47,10 +48,15 @@ pub fn try_match(
     if let Some(refusal) = first_dangling(schema, rule, table, tuple) {
         return Ok(Verdict::Refused(refusal));
     }
+    let values = set_values(alloc, rule, table, tuple, ops)?;
+    let values = values.as_slice();
+    if let Some(refusal) = first_without_value(schema, rule, values) {
+        return Ok(Verdict::Refused(refusal));
+    }
     if let Some(refusal) = first_too_large(schema, rule, table.rows()) {
         return Ok(Verdict::Refused(refusal));
     }
-    let rows = rows_after(alloc, schema, rule, table, tuple)?;
+    let rows = rows_after(alloc, schema, rule, table, tuple, values)?;
     let after = table_of(alloc, schema, rows)?;
     Ok(Verdict::Ready(after))
 }
