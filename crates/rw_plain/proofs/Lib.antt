@@ -1,6 +1,7 @@
 pub mod ArrowValues
 pub mod Ascents
 pub mod Attributes
+pub mod CellKinds
 pub mod Comatch
 pub mod Equations
 pub mod Firsts

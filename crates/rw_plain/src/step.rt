@@ -45,6 +45,7 @@ pub fn try_match(
     requires tuple { Contains (matches (signature_of schema.now) rule.now.goal.left rule.now.goal.monic (instance_of_table table.now)) tuple.now }
     ensures { IfOk result (IsVerdict (signature_of schema.now) (codes_of (entries ops.now)) rule.now tuple.now table.now.rows) }
 {
+    let before = table.rows();
     if let Some(refusal) = first_dangling(schema, rule, table, tuple) {
         return Ok(Verdict::Refused(refusal));
     }
@@ -53,7 +54,7 @@ pub fn try_match(
     if let Some(refusal) = first_without_value(schema, rule, values) {
         return Ok(Verdict::Refused(refusal));
     }
-    if let Some(refusal) = first_too_large(schema, rule, table.rows()) {
+    if let Some(refusal) = first_too_large(schema, rule, before) {
         return Ok(Verdict::Refused(refusal));
     }
     let rows = rows_after(alloc, schema, rule, table, tuple, values)?;
