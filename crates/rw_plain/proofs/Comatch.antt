@@ -16,9 +16,10 @@ use Rattle.rw_pattern.specs.PatternLists.{size_of, instance_of_pattern, map_of_t
 use Rattle.rw_pattern.proofs.Maps.{images_long}
 use Rattle.rw_pattern.proofs.PartNames.{has_part}
 use Rattle.rw_rule.specs.PlainRules.{is_plain}
-use Rattle.rw_rule.specs.RuleFaults.{IsRuleOver}
+use Rattle.rw_plain.specs.RuleParts.{IsSpanOver}
 use Rattle.rw_rule.specs.RuleLists.{RuleLists}
-use Rattle.rw_plain.specs.PlainStep.{is_image, new_parts, new_before, name_from, name_of_right, part_of_name, value_after}
+use Rattle.rw_rule.specs.Images.{is_image}
+use Rattle.rw_plain.specs.PlainStep.{new_parts, new_before, name_from, name_of_right, part_of_name, value_after}
 use Rattle.rw_plain.proofs.ArrowValues.{value_at_earlier, value_at_new}
 use Rattle.rw_plain.proofs.NamesAfter.{name_below}
 use Rattle.rw_plain.proofs.NewParts.{new_part_at}
@@ -50,7 +51,7 @@ place_of_distinct numbers place distinct within =
     found_at numbers place answer distinct within refl some
 
 -- the image of a kept part has the name of that part
-name_of_kept : (C : Signature) (rule : RuleLists) (tuple next : List ℕ) (object kept : ℕ) → IsRuleOver C rule → is_plain C rule ≡ true
+name_of_kept : (C : Signature) (rule : RuleLists) (tuple next : List ℕ) (object kept : ℕ) → IsSpanOver C rule → is_plain rule ≡ true
     → object < C.objects → kept < size_of rule.keep object
     → name_of_right rule tuple next object (image_of rule.r object kept) ≡ map_of_tuple rule.goal.left tuple object (image_of rule.l object kept)
 name_of_kept C rule tuple next object kept over plain known there =

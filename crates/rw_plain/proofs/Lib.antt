@@ -1,9 +1,12 @@
 pub mod ArrowValues
 pub mod Ascents
+pub mod Attributes
+pub mod CellKinds
 pub mod Comatch
 pub mod Equations
 pub mod Firsts
 pub mod Listed
+pub mod Mapped
 pub mod NamesAfter
 pub mod NewNames
 pub mod NewParts
@@ -13,7 +16,10 @@ pub mod PlainMatch
 pub mod Ranges
 pub mod Removed
 pub mod Room
+pub mod RuleKnown
 pub mod RuleMaps
 pub mod RuleParts
+pub mod SetKinds
+pub mod SetPlaces
 pub mod Sound
 pub mod Tables

@@ -15,9 +15,10 @@ use Rattle.rw_pattern.specs.MapFaults.{image_of}
 use Rattle.rw_pattern.specs.PatternLists.{size_of, instance_of_pattern, map_of_tuple}
 use Rattle.rw_pattern.proofs.Maps.{images_long}
 use Rattle.rw_pattern.proofs.PartNames.{has_part}
-use Rattle.rw_rule.specs.RuleFaults.{IsRuleOver}
+use Rattle.rw_plain.specs.RuleParts.{IsSpanOver}
 use Rattle.rw_rule.specs.RuleLists.{RuleLists}
-use Rattle.rw_plain.specs.PlainStep.{is_image, new_parts, new_before, names_after, name_from, name_of_right, part_of_name, value_after}
+use Rattle.rw_rule.specs.Images.{is_image}
+use Rattle.rw_plain.specs.PlainStep.{new_parts, new_before, names_after, name_from, name_of_right, part_of_name, value_after}
 use Rattle.rw_plain.proofs.ArrowValues.{value_at_earlier, value_at_new}
 use Rattle.rw_plain.proofs.Ascents.{range_contains, range_bounds}
 use Rattle.rw_plain.proofs.NamesAfter.{name_below, kept_names, new_names, kept_there, kept_known}
@@ -28,7 +29,7 @@ use Rattle.rw_plain.proofs.RuleMaps.{keep_known, left_natural, right_shape, righ
 use Rattle.rw_plain.proofs.Removed.{kept_stays, value_stays}
 
 -- the name of the image of a kept part, or of a new part, is a name after the step
-name_from_there : (C : Signature) (rule : RuleLists) (tuple : List ℕ) (X : Instance) (next : List ℕ) (object part : ℕ) (place : Option ℕ) → IsRuleOver C rule → IsPlainMatch C rule tuple X
+name_from_there : (C : Signature) (rule : RuleLists) (tuple : List ℕ) (X : Instance) (next : List ℕ) (object part : ℕ) (place : Option ℕ) → IsSpanOver C rule → IsPlainMatch C rule tuple X
     → object < C.objects → part < size_of rule.right object → position (λ image. image == part) (list_at rule.r object) ≡ place
     → Contains (names_after rule tuple X next object) (name_from rule tuple next object part place)
 name_from_there C rule tuple X next object part None over match known there place_is =
@@ -49,7 +50,7 @@ name_from_there C rule tuple X next object part (Some kept) over match known the
     (kept_stays C rule tuple X object kept over match known kept_part)
 
 -- the name of a part of the right pattern is a name after the step
-pub right_there : (C : Signature) (rule : RuleLists) (tuple : List ℕ) (X : Instance) (next : List ℕ) (object part : ℕ) → IsRuleOver C rule → IsPlainMatch C rule tuple X
+pub right_there : (C : Signature) (rule : RuleLists) (tuple : List ℕ) (X : Instance) (next : List ℕ) (object part : ℕ) → IsSpanOver C rule → IsPlainMatch C rule tuple X
     → object < C.objects → part < size_of rule.right object → Contains (names_after rule tuple X next object) (name_of_right rule tuple next object part)
 right_there C rule tuple X next object part over match known there =
     name_from_there C rule tuple X next object part (position (λ image. image == part) (list_at rule.r object)) over match known there refl
@@ -66,7 +67,7 @@ new_part_there rule next object name there =
 
 -- where an arrow leads from a new name is a name after the step
 pub new_value_there : (C : Signature) (rule : RuleLists) (tuple : List ℕ) (X : Instance) (next : List ℕ) (a : ℕ) (ends : ArrowEnds) (name : ℕ) → IsCategory C
-    → IsRuleOver C rule → IsPlainMatch C rule tuple X → slice_get C.arrows a ≡ Some ends → Contains (new_names rule next ends.source.0) name
+    → IsSpanOver C rule → IsPlainMatch C rule tuple X → slice_get C.arrows a ≡ Some ends → Contains (new_names rule next ends.source.0) name
     → Contains (names_after rule tuple X next ends.target.0) (value_after C rule tuple X next a name)
 new_value_there C rule tuple X next a ends name category over match there fresh =
     let source = ends.source.0 in
@@ -83,7 +84,7 @@ new_value_there C rule tuple X next a ends name category over match there fresh 
 
 -- where an arrow leads from a name that stays is a name after the step
 pub kept_value_there : (C : Signature) (rule : RuleLists) (tuple : List ℕ) (rows : RowLists) (a : ℕ) (ends : ArrowEnds) (name : ℕ) → IsCategory C
-    → table_fault C rows ≡ None → IsRuleOver C rule → IsPlainMatch C rule tuple (instance_of C rows) → slice_get C.arrows a ≡ Some ends
+    → table_fault C rows ≡ None → IsSpanOver C rule → IsPlainMatch C rule tuple (instance_of C rows) → slice_get C.arrows a ≡ Some ends
     → Contains (kept_names rule tuple (instance_of C rows) ends.source.0) name
     → Contains (names_after rule tuple (instance_of C rows) rows.next ends.target.0) (value_after C rule tuple (instance_of C rows) rows.next a name)
 kept_value_there C rule tuple rows a ends name category none over match there early =

@@ -10,7 +10,8 @@ use Rattle.rw_pattern.specs.PatternLists.{size_of}
 use Rattle.rw_pattern.proofs.PartNames.{part_below}
 use Rattle.rw_pattern.proofs.Sequences.{contained_in_filter}
 use Rattle.rw_rule.specs.RuleLists.{RuleLists}
-use Rattle.rw_plain.specs.PlainStep.{is_image, parts_of, new_parts, new_before}
+use Rattle.rw_rule.specs.Images.{is_image, parts_of}
+use Rattle.rw_plain.specs.PlainStep.{new_parts, new_before}
 use Rattle.rw_plain.proofs.Ascents.{ascends_filter, ascends_range}
 use Rattle.rw_plain.proofs.Ranges.{range_split}
 

@@ -15,7 +15,7 @@ use Rattle.rw_pattern.specs.PatternLists.{PatternLists, size_of}
 use Rattle.rw_pattern.proofs.Maps.{images_long}
 use Rattle.rw_pattern.proofs.PartNames.{part_below}
 use Rattle.rw_pattern.proofs.Shapes.{IsPattern, row_long, image_within}
-use Rattle.rw_plain.specs.PlainStep.{parts_of, is_image}
+use Rattle.rw_rule.specs.Images.{parts_of, is_image}
 
 -- a part that passes a test that some part passes
 pub part_passes : (pattern : PatternLists) (object : ℕ) (test : ℕ → Bool) → list_any test (parts_of pattern object) ≡ true

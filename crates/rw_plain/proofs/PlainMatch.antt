@@ -11,7 +11,7 @@ use Rattle.rw_pattern.specs.PatternLists.{size_of, instance_of_pattern, map_of_t
 use Rattle.rw_pattern.proofs.PartNames.{has_part}
 use Rattle.rw_pattern.proofs.Sequences.{all_in_at}
 use Rattle.rw_rule.specs.PlainRules.{is_single_or_monic, is_monic_where_many, is_plain}
-use Rattle.rw_rule.specs.RuleFaults.{IsRuleOver}
+use Rattle.rw_plain.specs.RuleParts.{IsSpanOver}
 use Rattle.rw_rule.specs.RuleLists.{RuleLists}
 use Rattle.rw_plain.specs.Obstructions.{dangling}
 use Rattle.rw_plain.proofs.RuleMaps.{plain_known}
@@ -24,7 +24,7 @@ pub record IsPlainMatch (C : Signature) (rule : RuleLists) (tuple : List ℕ) (X
   pub safe : dangling C rule tuple X ≡ None
 
 -- where each object with two parts or more is monic, a match that is injective on monic objects is injective
-pub is_plain_match : (C : Signature) (rule : RuleLists) (tuple : List ℕ) (X : Instance) → IsRuleOver C rule → is_plain C rule ≡ true
+pub is_plain_match : (C : Signature) (rule : RuleLists) (tuple : List ℕ) (X : Instance) → IsSpanOver C rule → is_plain rule ≡ true
     → IsNatural C (instance_of_pattern rule.goal.left) X (map_of_tuple rule.goal.left tuple)
     → IsInjectiveOn rule.goal.monic (instance_of_pattern rule.goal.left) (map_of_tuple rule.goal.left tuple)
     → dangling C rule tuple X ≡ None → IsPlainMatch C rule tuple X
@@ -33,7 +33,7 @@ is_plain_match C rule tuple X over plain natural injective safe = record {
   injective = λ object part other known there other_there same.
       let left = rule.goal.left in
       let monic = rule.goal.monic in
-      let marked : is_monic_where_many left monic ≡ true = (plain_known C rule plain).monic in
+      let marked : is_monic_where_many left monic ≡ true = (plain_known rule plain).monic in
       let within : object < length monic = rw over.parts.goal.monic known in
       let mark : Bool = get_or monic object false in
       let mark_is : slice_get monic object ≡ Some mark = slice_get-get_or monic object false within in
@@ -48,7 +48,7 @@ is_plain_match C rule tuple X over plain natural injective safe = record {
 -- a step of a plain rule: the rule, the lists before, and a match at which no arrow dangles
 pub record IsPlainStep (C : Signature) (rule : RuleLists) (tuple : List ℕ) (rows : RowLists) : Type 0 where
   pub category : IsCategory C
-  pub over : IsRuleOver C rule
-  pub plain : is_plain C rule ≡ true
+  pub over : IsSpanOver C rule
+  pub plain : is_plain rule ≡ true
   pub sound : table_fault C rows ≡ None
   pub match : IsPlainMatch C rule tuple (instance_of C rows)

@@ -1,10 +1,11 @@
 -- The numbers from one on, with one number more.
-use Rattle.std.proofs.Common.{◌≡◌, ℕ, zero, suc, ◌+◌, ◌<◌, Bool, true, false, cond, filter, map, length, get_or, List, [], ◌∷◌, ◌++◌, refl, ap, sym, ◌∙◌, add-zero, zero-add, arith, length-append}
+use Rattle.std.proofs.Common.{◌≡◌, ℕ, zero, suc, ◌+◌, ◌<◌, Bool, true, false, cond, filter, map, length, get_or, Some, slice_get, List, [], ◌∷◌, ◌++◌, refl, ap, sym, ◌∙◌, add-zero, zero-add, arith, length-append}
 use Rattle.std.specs.List.{list_any, range_with_len}
 use Rattle.std.proofs.lemmas.List.{length-map}
 use Rattle.std.proofs.lemmas.List.Elements.{filter-append}
 use Rattle.std.proofs.lemmas.List.Folds.{list_any-append}
-use Rattle.std.proofs.lemmas.List.FromFn.{length-map-range_with_len, get_or-map-range_with_len, map-range_with_len_more}
+use Rattle.std.proofs.lemmas.List.FromFn.{length-range_with_len, get_or-range_with_len, length-map-range_with_len, get_or-map-range_with_len, map-range_with_len_more}
+use Rattle.std.proofs.lemmas.Option.{slice_get-get_or}
 use Rattle.rw_schema.specs.RowLists.{list_at}
 use Rattle.rw_schema.proofs.Lists.{list_at_map}
 
@@ -15,6 +16,12 @@ range_split start (suc first) later =
     let one_more : suc first + later ≡ suc (first + later) = omega arith in
     let same : (start + 1) + first ≡ start + suc first = omega arith in
     rw (one_more, range_split (start + 1) first later, same) refl
+
+-- a number of a range from 0 stands at its place
+pub range_at : (n k : ℕ) → k < n → slice_get (range_with_len 0 n) k ≡ Some k
+range_at n k short =
+    slice_get-get_or (range_with_len 0 n) k 0 (rw (length-range_with_len 0 n) short)
+    ∙ ap Some (get_or-range_with_len 0 n k 0 short ∙ zero-add k)
 
 -- one number more stands behind the others
 pub range_more : (first n : ℕ) → range_with_len first (n + 1) ≡ range_with_len first n ++ (first + n) ∷ []

@@ -10,18 +10,19 @@ use Rattle.rw_spec.specs.Instance.{Instance, Has}
 use Rattle.rw_pattern.specs.MapFaults.{image_of}
 use Rattle.rw_pattern.specs.PatternLists.{size_of, instance_of_pattern, map_of_tuple}
 use Rattle.rw_pattern.proofs.PartNames.{part_below, has_part}
-use Rattle.rw_rule.specs.RuleFaults.{IsRuleOver}
+use Rattle.rw_plain.specs.RuleParts.{IsSpanOver}
 use Rattle.rw_rule.specs.RuleLists.{RuleLists}
 use Rattle.rw_rule.specs.declared.refusal.Refusal.{Refusal}
 use Rattle.rw_rule.specs.declared.refusal.Refusal.TheVariants.{Dangling}
-use Rattle.rw_plain.specs.PlainStep.{is_image, is_matched, is_removed}
+use Rattle.rw_rule.specs.Images.{is_image}
+use Rattle.rw_plain.specs.PlainStep.{is_matched, is_removed}
 use Rattle.rw_plain.specs.Obstructions.{dangles, dangling_at}
 use Rattle.rw_plain.proofs.Parts.{part_passes, some_passes, image_from, image_found, value_part}
 use Rattle.rw_plain.proofs.PlainMatch.{IsPlainMatch}
 use Rattle.rw_plain.proofs.RuleMaps.{keep_is, keep_known, left_natural, left_shape}
 
 -- the name of a kept part is not removed
-pub kept_stays : (C : Signature) (rule : RuleLists) (tuple : List ℕ) (X : Instance) (object kept : ℕ) → IsRuleOver C rule → IsPlainMatch C rule tuple X
+pub kept_stays : (C : Signature) (rule : RuleLists) (tuple : List ℕ) (X : Instance) (object kept : ℕ) → IsSpanOver C rule → IsPlainMatch C rule tuple X
     → object < C.objects → kept < size_of rule.keep object
     → is_removed rule tuple object (map_of_tuple rule.goal.left tuple object (image_of rule.l object kept)) ≡ false
 kept_stays C rule tuple X object kept over match known there =
@@ -41,7 +42,7 @@ kept_stays C rule tuple X object kept over match known there =
     both_ways (is_image rule.l object found.0) (not-true (is_image rule.l object found.0) both.0) (rw same inside))
 
 -- a name that is matched and is not removed is that of a kept part
-matched_kept : (C : Signature) (rule : RuleLists) (tuple : List ℕ) (object name : ℕ) → IsRuleOver C rule → object < C.objects
+matched_kept : (C : Signature) (rule : RuleLists) (tuple : List ℕ) (object name : ℕ) → IsSpanOver C rule → object < C.objects
     → is_matched rule tuple object name ≡ true → is_removed rule tuple object name ≡ false
     → (kept : ℕ) × (kept < size_of rule.keep object) × (map_of_tuple rule.goal.left tuple object (image_of rule.l object kept) ≡ name)
 matched_kept C rule tuple object name over known matched stays =
@@ -69,7 +70,7 @@ no_dangle C rule tuple X a ends name match there (k, within, is) =
     not-true (dangles rule tuple X a ends name) (passed_unless (not (dangles rule tuple X a ends name)) (Dangling (record { 0 = a }) name) here)
 
 -- where an arrow leads from the name of a kept part is not removed
-value_kept : (C : Signature) (rule : RuleLists) (tuple : List ℕ) (X : Instance) (a : ℕ) (ends : ArrowEnds) (kept : ℕ) → IsCategory C → IsRuleOver C rule → IsPlainMatch C rule tuple X
+value_kept : (C : Signature) (rule : RuleLists) (tuple : List ℕ) (X : Instance) (a : ℕ) (ends : ArrowEnds) (kept : ℕ) → IsCategory C → IsSpanOver C rule → IsPlainMatch C rule tuple X
     → slice_get C.arrows a ≡ Some ends → kept < size_of rule.keep ends.source.0
     → is_removed rule tuple ends.target.0 (X.value a (map_of_tuple rule.goal.left tuple ends.source.0 (image_of rule.l ends.source.0 kept))) ≡ false
 value_kept C rule tuple X a ends kept category over match there kept_there =
@@ -89,7 +90,7 @@ value_kept C rule tuple X a ends kept category over match there kept_there =
     (value_part C rule.keep a ends kept (keep_is C rule over) there kept_there))
 
 -- where an arrow leads from a name that is not removed is not removed
-pub value_stays : (C : Signature) (rule : RuleLists) (tuple : List ℕ) (X : Instance) (a : ℕ) (ends : ArrowEnds) (name : ℕ) → IsCategory C → IsRuleOver C rule → IsPlainMatch C rule tuple X
+pub value_stays : (C : Signature) (rule : RuleLists) (tuple : List ℕ) (X : Instance) (a : ℕ) (ends : ArrowEnds) (name : ℕ) → IsCategory C → IsSpanOver C rule → IsPlainMatch C rule tuple X
     → slice_get C.arrows a ≡ Some ends → Has X ends.source.0 name → is_removed rule tuple ends.source.0 name ≡ false
     → is_removed rule tuple ends.target.0 (X.value a name) ≡ false
 value_stays C rule tuple X a ends name category over match there has stays =

@@ -11,21 +11,19 @@ use Rattle.rw_pattern.specs.PatternLists.{size_of}
 use Rattle.rw_pattern.proofs.Maps.{IsMap, is_map, lists_long, images_long}
 use Rattle.rw_pattern.proofs.Places.{parts_within}
 use Rattle.rw_pattern.proofs.Shapes.{IsPattern, row_long, ends_at}
-use Rattle.rw_rule.specs.RuleFaults.{IsRuleOver}
 use Rattle.rw_rule.specs.RuleLists.{RuleLists}
 use Rattle.rw_plain.proofs.Parts.{value_part}
-use Rattle.rw_plain.proofs.RuleMaps.{left_is, keep_is, right_is, maps_known}
-use Rattle.rw_plain.specs.RuleParts.{HasObject, HasArrow}
+use Rattle.rw_plain.proofs.RuleMaps.{left_is, keep_is, right_is}
+use Rattle.rw_plain.specs.RuleParts.{IsSpanOver, HasObject, HasArrow}
 
 -- a rule over a signature has each of its objects
-pub object_known : (C : Signature) (rule : RuleLists) (object : ℕ) → IsRuleOver C rule → object < C.objects → HasObject rule object
+pub object_known : (C : Signature) (rule : RuleLists) (object : ℕ) → IsSpanOver C rule → object < C.objects → HasObject rule object
 object_known C rule object is known =
     let left : IsPattern C rule.goal.left = left_is C rule is in
     let keep : IsPattern C rule.keep = keep_is C rule is in
     let right : IsPattern C rule.right = right_is C rule is in
-    let faults = maps_known C rule is in
-    let l : IsMap C rule.keep rule.goal.left rule.l = is_map C rule.keep rule.goal.left rule.l faults.0 in
-    let r : IsMap C rule.keep rule.right rule.r = is_map C rule.keep rule.right rule.r faults.1 in
+    let l : IsMap C rule.keep rule.goal.left rule.l = is_map C rule.keep rule.goal.left rule.l is.l in
+    let r : IsMap C rule.keep rule.right rule.r = is_map C rule.keep rule.right rule.r is.r in
     let kept : object < length rule.keep.sizes = omega (arith, keep.sizes_long) in
     let of_l : length (list_at rule.l object) ≡ size_of rule.keep object = images_long rule.keep rule.l object l.shape kept in
     let of_r : length (list_at rule.r object) ≡ size_of rule.keep object = images_long rule.keep rule.r object r.shape kept in
@@ -41,7 +39,7 @@ object_known C rule object is known =
     }
 
 -- a rule over a category has each of its arrows
-arrow_known : (C : Signature) (rule : RuleLists) (arrow : ℕ) (ends : ArrowEnds) → IsCategory C → IsRuleOver C rule
+arrow_known : (C : Signature) (rule : RuleLists) (arrow : ℕ) (ends : ArrowEnds) → IsCategory C → IsSpanOver C rule
     → slice_get C.arrows arrow ≡ Some ends → HasArrow C rule arrow ends
 arrow_known C rule arrow ends category is there =
     let right : IsPattern C rule.right = right_is C rule is in
@@ -61,7 +59,7 @@ arrow_known C rule arrow ends category is there =
     }
 
 -- a rule over a schema has each arrow in the list of its arrows
-pub listed_arrow_known : (C : Signature) (rule : RuleLists) (listed arrows : List ArrowDef) (number : ℕ) (arrow : ArrowDef) → IsCategory C → IsRuleOver C rule
+pub listed_arrow_known : (C : Signature) (rule : RuleLists) (listed arrows : List ArrowDef) (number : ℕ) (arrow : ArrowDef) → IsCategory C → IsSpanOver C rule
     → listed ≡ arrows → map ends_of_arrow arrows ≡ C.arrows → number < length listed → arrow ≡ get_or listed number arrow → HasArrow C rule number (ends_of_arrow arrow)
 listed_arrow_known C rule listed arrows number arrow category is same all within here =
     arrow_known C rule number (ends_of_arrow arrow) category is

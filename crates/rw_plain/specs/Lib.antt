@@ -1,4 +1,5 @@
 pub mod Obstructions
 pub mod PlainStep
 pub mod RuleParts
+pub mod SetLists
 pub mod SetValues

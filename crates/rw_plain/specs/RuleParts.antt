@@ -1,11 +1,27 @@
--- What a rule over a signature has of an object and of an arrow.
-use Rattle.std.specs.Prelude.{◌≡◌, ◌<◌, ◌≤◌, ℕ, length, slice_get, slice_index, Some}
+-- What a step reads of a rule: its patterns, its maps and the places of its sets, and what it has of an object and of an
+-- arrow.
+use Rattle.std.specs.Prelude.{◌≡◌, ◌<◌, ◌≤◌, ℕ, true, length, slice_get, slice_index, Some, None}
+use Rattle.std.specs.List.{list_all}
 use Rattle.rw_schema.specs.declared.signature.ArrowEnds.{ArrowEnds}
 use Rattle.rw_schema.specs.RowLists.{list_at}
 use Rattle.rw_schema.specs.Signature.{Signature}
-use Rattle.rw_pattern.specs.MapFaults.{image_of}
-use Rattle.rw_pattern.specs.PatternLists.{size_of}
+use Rattle.rw_pattern.specs.MapFaults.{image_of, map_fault}
+use Rattle.rw_pattern.specs.declared.cell.PatternCell.{PatternCell}
+use Rattle.rw_pattern.specs.PatternLists.{PatternLists, holder, size_of}
+use Rattle.rw_rule.specs.RuleFaults.{AreOver}
 use Rattle.rw_rule.specs.RuleLists.{RuleLists}
+use Rattle.rw_rule.specs.Sets.{is_on_part}
+
+-- the part and the attribute of the entry are there
+abbrev pub IsOnCell : PatternLists → PatternCell → Type 0
+IsOnCell pattern entry = (entry.part < size_of pattern (holder pattern entry.attr.0)) × (entry.attr.0 < length pattern.holders)
+
+-- the patterns are over the signature, both maps are maps of patterns, and each set is on a part of the right pattern
+pub record IsSpanOver (C : Signature) (rule : RuleLists) : Type 0 where
+  pub parts : AreOver C rule
+  pub l : map_fault C rule.keep rule.goal.left rule.l ≡ None
+  pub r : map_fault C rule.keep rule.right rule.r ≡ None
+  pub sets : list_all (is_on_part rule.right) rule.sets ≡ true
 
 -- the patterns have sizes for the object and the maps have images, in L those of l
 pub record HasObject (rule : RuleLists) (object : ℕ) : Type 0 where

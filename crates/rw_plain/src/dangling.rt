@@ -3,10 +3,9 @@
 ghost use Rattle.std.specs.Prelude.{◌≡◌, ◌&&◌, not, length, sum};
 ghost use Rattle.rw_schema.specs.Presentation.{signature_of, ends_of_arrow};
 ghost use Rattle.rw_table.specs.Tabled.{IsOver, instance_of_table};
-ghost use Rattle.rw_rule.specs.RuleFaults.{IsRuleOver};
 ghost use Rattle.rw_plain.specs.Obstructions.{dangling, dangling_at as dangling_of};
 ghost use Rattle.rw_plain.specs.PlainStep.{is_matched as is_matched_name, is_removed as is_removed_name};
-ghost use Rattle.rw_plain.specs.RuleParts.{HasObject, HasArrow};
+ghost use Rattle.rw_plain.specs.RuleParts.{IsSpanOver, HasObject, HasArrow};
 
 use crate::matched::{is_matched, is_removed};
 use rw_pattern::Tuple;
@@ -22,7 +21,7 @@ pub(crate) fn first_dangling(
     tuple: &Tuple,
 ) -> Option<Refusal>
     requires table { IsOver schema.now table.now }
-    requires rule { IsRuleOver (signature_of schema.now) rule.now }
+    requires rule { IsSpanOver (signature_of schema.now) rule.now }
     requires tuple { length tuple.now ≡ sum rule.now.goal.left.sizes }
     ensures { result ≡ dangling (signature_of schema.now) rule.now tuple.now (instance_of_table table.now) }
 {

@@ -2,10 +2,10 @@
 
 ghost use Rattle.std.specs.Prelude.{◌≡◌, ◌<◌, ◌≤◌, IfOk, not, nat_le, length};
 ghost use Rattle.rw_schema.specs.Presentation.{signature_of};
-ghost use Rattle.rw_rule.specs.RuleFaults.{IsRuleOver};
 ghost use Rattle.rw_plain.specs.Obstructions.{too_large, most_names};
-ghost use Rattle.rw_plain.specs.PlainStep.{is_image, new_parts as new_parts_of, new_before as new_parts_before, next_after as next_after_step};
-ghost use Rattle.rw_plain.specs.RuleParts.{HasObject};
+ghost use Rattle.rw_rule.specs.Images.{is_image};
+ghost use Rattle.rw_plain.specs.PlainStep.{new_parts as new_parts_of, new_before as new_parts_before, next_after as next_after_step};
+ghost use Rattle.rw_plain.specs.RuleParts.{IsSpanOver, HasObject};
 
 use crate::matched::has;
 use rw_rule::{Refusal, Rule};
@@ -78,7 +78,7 @@ fn has_room(rule: &Rule, rows: &Rows, object: ObjectId) -> bool
 
 /// The first object whose next name would pass the greatest one.
 pub(crate) fn first_too_large(schema: &Schema, rule: &Rule, rows: &Rows) -> Option<Refusal>
-    requires rule { IsRuleOver (signature_of schema.now) rule.now }
+    requires rule { IsSpanOver (signature_of schema.now) rule.now }
     requires next { length rows.now.next ≡ length schema.now.objects }
     ensures { result ≡ too_large rule.now rows.now.next }
 {

@@ -1,12 +1,15 @@
 //! The step of a double-pushout rule whose maps are injective, at an injective match.
 #![tactic(auto)]
 
+mod cells;
 mod dangling;
 mod growth;
 mod matched;
 mod names;
 mod rows;
+mod set_values;
 mod step;
+mod valuation;
 mod values;
 mod verdict;
 

@@ -3,7 +3,8 @@
 ghost use Rattle.std.specs.Prelude.{◌≡◌, ◌<◌, ◌==◌, ◌&&◌, not, length, sum};
 ghost use Rattle.std.specs.List.{list_any};
 ghost use Rattle.rw_pattern.specs.PatternLists.{size_of, map_of_tuple};
-ghost use Rattle.rw_plain.specs.PlainStep.{is_image, is_matched as is_matched_name, is_removed as is_removed_name};
+ghost use Rattle.rw_rule.specs.Images.{is_image};
+ghost use Rattle.rw_plain.specs.PlainStep.{is_matched as is_matched_name, is_removed as is_removed_name};
 ghost use Rattle.rw_plain.specs.RuleParts.{HasObject};
 
 use rw_pattern::Tuple;

@@ -1,50 +1,50 @@
 //! The lists after the step.
 
-ghost use Rattle.std.specs.Prelude.{◌≡◌, ◌≤◌, IfOk, true, None, Contains, length, map, sum};
+ghost use Rattle.std.specs.Prelude.{◌≡◌, ◌≤◌, IfOk, List, None, length, map, sum};
 ghost use Rattle.std.specs.List.{range_with_len};
 ghost use Rattle.rw_schema.specs.First.{map_in};
 ghost use Rattle.rw_schema.specs.Presentation.{signature_of, ends_of_arrow};
 ghost use Rattle.rw_schema.specs.Signature.{IsCategory};
-ghost use Rattle.rw_pattern.specs.Matches.{matches};
 ghost use Rattle.rw_table.specs.TableFaults.{table_fault};
 ghost use Rattle.rw_table.specs.Tabled.{IsOver, instance_of_table};
-ghost use Rattle.rw_rule.specs.PlainRules.{is_plain};
-ghost use Rattle.rw_rule.specs.RuleFaults.{IsRuleOver};
-ghost use Rattle.rw_plain.specs.Obstructions.{dangling, too_large};
+ghost use Rattle.rw_terms.specs.declared.code.OpCode as code;
+ghost use Rattle.rw_plain.specs.Obstructions.{too_large};
 ghost use Rattle.rw_plain.specs.PlainStep.{names_after as names_after_step, next_after as next_after_step, value_after as value_after_step, rows_after as rows_after_step};
-ghost use Rattle.rw_plain.specs.RuleParts.{HasArrow};
+ghost use Rattle.rw_plain.specs.RuleParts.{IsSpanOver, HasArrow};
+ghost use Rattle.rw_plain.specs.SetLists.{set_values};
 
+use crate::cells::all_cells_after;
 use crate::growth::{new_parts, next_after};
 use crate::names::names_after;
 use crate::values::value_after;
 use rw_pattern::Tuple;
 use rw_rule::Rule;
-use rw_schema::{ArrowDef, ArrowId, ObjectId, OutOfMemory, Rows, Schema};
+use rw_schema::{ArrowDef, ArrowId, Atom, ObjectId, OutOfMemory, Rows, Schema};
 use rw_table::Table;
 use std::alloc::Global;
 
-/// The lists of the instance after the step. There are no attributes, and no arrow dangles, so they are an instance.
+/// The lists of the instance after the step. Of each set its value is given.
 pub(crate) fn rows_after(
     alloc: Global,
     schema: &Schema,
     rule: &Rule,
     table: &Table,
     tuple: &Tuple,
+    values: &[Option<Atom>],
 ) -> Result<Rows, OutOfMemory>
     requires table { IsOver schema.now table.now }
-    requires rule { IsRuleOver (signature_of schema.now) rule.now }
-    requires plain { is_plain (signature_of schema.now) rule.now ≡ true }
-    requires tuple { Contains (matches (signature_of schema.now) rule.now.goal.left rule.now.goal.monic (instance_of_table table.now)) tuple.now }
-    requires closed { dangling (signature_of schema.now) rule.now tuple.now (instance_of_table table.now) ≡ None }
+    requires rule { IsSpanOver (signature_of schema.now) rule.now }
+    requires tuple { length tuple.now ≡ sum rule.now.goal.left.sizes }
     requires room { too_large rule.now table.now.rows.next ≡ None }
-    ensures rows { IfOk result (λ rows. rows ≡ rows_after_step (signature_of schema.now) rule.now tuple.now table.now.rows) }
-    ensures sound { IfOk result (λ rows. table_fault (signature_of schema.now) rows ≡ None) }
+    requires values { length values.now ≡ length rule.now.sets }
+    ensures { (codes : List code.OpCode) → values.now ≡ set_values codes rule.now tuple.now (instance_of_table table.now)
+        → IfOk result (λ rows. rows ≡ rows_after_step (signature_of schema.now) codes rule.now tuple.now table.now.rows) }
 {
     let next = all_next_after(alloc, schema, rule, table.rows())?;
     let names = all_names_after(alloc, schema, rule, table, tuple)?;
     let arrows = schema.arrow_list();
     let rows = all_rows_after(alloc, arrows, rule, table, tuple, names.as_slice())?;
-    let cells = Vec::new(alloc);
+    let cells = all_cells_after(alloc, schema, rule, table, tuple, names.as_slice(), values)?;
     Ok(Rows::from_lists(names, rows, cells, next))
 }
 
@@ -57,7 +57,7 @@ fn all_names_after(
     tuple: &Tuple,
 ) -> Result<Vec<Vec<u32>>, OutOfMemory>
     requires table { IsOver schema.now table.now }
-    requires rule { IsRuleOver (signature_of schema.now) rule.now }
+    requires rule { IsSpanOver (signature_of schema.now) rule.now }
     requires tuple { length tuple.now ≡ sum rule.now.goal.left.sizes }
     requires sound { table_fault table.now.signature table.now.rows ≡ None }
     requires room { too_large rule.now table.now.rows.next ≡ None }
@@ -79,7 +79,7 @@ fn all_next_after(
     rule: &Rule,
     rows: &Rows,
 ) -> Result<Vec<u32>, OutOfMemory>
-    requires rule { IsRuleOver (signature_of schema.now) rule.now }
+    requires rule { IsSpanOver (signature_of schema.now) rule.now }
     requires next { length rows.now.next ≡ length schema.now.objects }
     requires room { too_large rule.now rows.now.next ≡ None }
     ensures { IfOk result (λ next. next.items ≡ map (next_after_step rule.now rows.now.next) (range_with_len 0 (length schema.now.objects))) }
@@ -103,7 +103,7 @@ fn all_rows_after(
     requires few { length arrows.now ≤ 256 }
     requires arrows { map ends_of_arrow arrows.now ≡ table.now.signature.arrows }
     requires category { IsCategory table.now.signature }
-    requires rule { IsRuleOver table.now.signature rule.now }
+    requires rule { IsSpanOver table.now.signature rule.now }
     requires tuple { length tuple.now ≡ sum rule.now.goal.left.sizes }
     requires sound { table_fault table.now.signature table.now.rows ≡ None }
     requires room { too_large rule.now table.now.rows.next ≡ None }

@@ -15,6 +15,7 @@ use crate::Verdict;
 use crate::dangling::first_dangling;
 use crate::growth::first_too_large;
 use crate::rows::rows_after;
+use crate::set_values::{first_without_value, set_values};
 use rw_pattern::Tuple;
 use rw_rule::Rule;
 use rw_schema::{OutOfMemory, Rows, Schema};
@@ -44,13 +45,19 @@ pub fn try_match(
     requires tuple { Contains (matches (signature_of schema.now) rule.now.goal.left rule.now.goal.monic (instance_of_table table.now)) tuple.now }
     ensures { IfOk result (IsVerdict (signature_of schema.now) (codes_of (entries ops.now)) rule.now tuple.now table.now.rows) }
 {
+    let before = table.rows();
     if let Some(refusal) = first_dangling(schema, rule, table, tuple) {
         return Ok(Verdict::Refused(refusal));
     }
-    if let Some(refusal) = first_too_large(schema, rule, table.rows()) {
+    let values = set_values(alloc, rule, table, tuple, ops)?;
+    let values = values.as_slice();
+    if let Some(refusal) = first_without_value(schema, rule, values) {
         return Ok(Verdict::Refused(refusal));
     }
-    let rows = rows_after(alloc, schema, rule, table, tuple)?;
+    if let Some(refusal) = first_too_large(schema, rule, before) {
+        return Ok(Verdict::Refused(refusal));
+    }
+    let rows = rows_after(alloc, schema, rule, table, tuple, values)?;
     let after = table_of(alloc, schema, rows)?;
     Ok(Verdict::Ready(after))
 }

@@ -1,6 +1,6 @@
 -- A new part is counted.
 use Rattle.std.proofs.Common.{◌≡◌, ℕ, Bool, true, false, not, sym, arith}
-use Rattle.rw_plain.specs.PlainStep.{is_image}
+use Rattle.rw_rule.specs.Images.{is_image}
 use Rattle.rw_plain.proofs.Ranges.{count_more}
 use Rattle.rw_plain.proofs.growth.new_before.Goals as goal
 use Rattle.rw_plain.proofs.growth.new_before.Goals.{then-is_new, else-is_new}

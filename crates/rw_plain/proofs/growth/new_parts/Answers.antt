@@ -1,7 +1,7 @@
 -- A new part goes behind the others.
 use Rattle.std.proofs.Common.{◌≡◌, ℕ, Bool, true, false, not, ◌∙◌, ap, sym, append-nil, List, [], ◌∷◌, ◌++◌, filter}
 use Rattle.std.specs.List.{range_with_len}
-use Rattle.rw_plain.specs.PlainStep.{is_image}
+use Rattle.rw_rule.specs.Images.{is_image}
 use Rattle.rw_plain.proofs.Ranges.{filter_more}
 use Rattle.rw_plain.proofs.growth.new_parts.Goals as goal
 use Rattle.rw_plain.proofs.growth.new_parts.Goals.{then-is_new+in_ok-push, else-is_new}

@@ -1,7 +1,7 @@
 -- The new parts so far are there.
 use Rattle.std.proofs.Common.{◌≡◌, not, filter}
 use Rattle.std.specs.List.{range_with_len}
-use Rattle.rw_plain.specs.PlainStep.{is_image}
+use Rattle.rw_rule.specs.Images.{is_image}
 use Rattle.rw_plain.proofs.growth.new_parts.Given as goal
 
 abbrev pub invariant-loop-part : goal.invariant-loop-part

@@ -2,7 +2,7 @@
 use Rattle.std.proofs.Common.{◌≡◌, ◌==◌, ℕ, Bool, not, ◌&&◌, ◌∙◌, ap, sym}
 use Rattle.rw_pattern.specs.PatternLists.{size_of, map_of_tuple}
 use Rattle.rw_rule.specs.RuleLists.{GoalLists, RuleLists}
-use Rattle.rw_plain.specs.PlainStep.{is_image}
+use Rattle.rw_rule.specs.Images.{is_image}
 use Rattle.rw_plain.proofs.Parts.{some_passes}
 use Rattle.rw_plain.proofs.Ranges.{none_more}
 use Rattle.rw_plain.proofs.matched.is_removed.Goals as goal

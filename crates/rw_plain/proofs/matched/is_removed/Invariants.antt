@@ -2,7 +2,7 @@
 use Rattle.std.proofs.Common.{◌≡◌, ◌==◌, not, ◌&&◌, false}
 use Rattle.std.specs.List.{list_any, range_with_len}
 use Rattle.rw_pattern.specs.PatternLists.{map_of_tuple}
-use Rattle.rw_plain.specs.PlainStep.{is_image}
+use Rattle.rw_rule.specs.Images.{is_image}
 use Rattle.rw_plain.proofs.matched.is_removed.Given as goal
 
 abbrev pub invariant-loop-part : goal.invariant-loop-part

@@ -11,6 +11,7 @@ use Rattle.rw_rule.specs.RuleLists.{RuleLists}
 use Rattle.rw_table.specs.Tabled.{Tabled, instance_of_table}
 use Rattle.rw_plain.specs.PlainStep.{names_after, value_after}
 use Rattle.rw_plain.specs.RuleParts.{HasArrow}
+use Rattle.rw_plain.proofs.Mapped.{mapped_in_more}
 use Rattle.rw_plain.proofs.Ranges.{mapped_long, mapped_at}
 use Rattle.rw_plain.proofs.RuleParts.{listed_arrow_known}
 use Rattle.rw_plain.proofs.rows.all_rows_after.Goals as goal
@@ -21,17 +22,6 @@ row_of rule table tuple arrow ends =
     let X : Instance = instance_of_table table in
     let next : List ℕ = table.rows.next in
     map (value_after table.signature rule tuple X next arrow) (names_after rule tuple X next ends.source.0)
-
--- the rows of the arrows so far, with one row more
-rows_more : (f : ℕ → ArrowEnds → List ℕ) (arrows : List ArrowDef) (number : ℕ) (arrow : ArrowDef) (rows : List (List ℕ)) (row : List ℕ)
-    → number < length arrows → arrow ≡ get_or arrows number arrow → rows ≡ map_in f 0 (take number (map ends_of_arrow arrows)) → row ≡ f number (ends_of_arrow arrow)
-    → rows ++ row ∷ [] ≡ map_in f 0 (take (number + 1) (map ends_of_arrow arrows))
-rows_more f arrows number arrow rows row within here are is =
-    let ends : ArrowEnds = ends_of_arrow arrow in
-    let all : List ArrowEnds = map ends_of_arrow arrows in
-    let there : ends ≡ get_or all number ends = sym (get_or-map ends_of_arrow arrows number arrow ends within ∙ ap ends_of_arrow (sym here)) in
-    ap (λ (rows : List (List ℕ)). rows ++ row ∷ []) are ∙ ap (λ (row : List ℕ). map_in f 0 (take number all) ++ row ∷ []) is
-    ∙ sym (map_in_more f all number ends (rw (length-map arrows ends_of_arrow) within) there)
 
 pub bounds-names-ends : goal.bounds-names-ends
 bounds-names-ends c =
@@ -78,5 +68,5 @@ loop-number-preserved c =
     c.in_ok-row_after.ensures ∙ ap (map (value_after table.signature rule tuple (instance_of_table table) table.rows.next number)) names in
     ap (map (λ list. list.items)) c.in_ok-push.ensures.items
     ∙ map_push (λ list. list.items) c.loop-number.rows.items c.in_ok-row_after.field-0
-    ∙ rows_more (row_of rule table tuple) arrows number arrow (map (λ list. list.items) c.loop-number.rows.items) c.in_ok-row_after.field-0.items
+    ∙ mapped_in_more (row_of rule table tuple) ends_of_arrow arrows number arrow (map (λ list. list.items) c.loop-number.rows.items) c.in_ok-row_after.field-0.items
     c.loop-number-test.true c.index-arrows-number.is c.loop-number.invariant row

@@ -1,0 +1,92 @@
+//! The values of a rule's variables at a match.
+
+ghost use Rattle.std.specs.Prelude.{◌≡◌, ◌<◌, All, IfOk, IfSome, find, length, pos, sum, unwrap_or};
+ghost use Rattle.std.specs.Option.{option_map};
+ghost use Rattle.rw_schema.specs.declared.atom.Atom.TheVariants.{Int};
+ghost use Rattle.rw_table.specs.Tabled.{instance_of_table};
+ghost use Rattle.rw_pattern.specs.Matches.{value_of as value_at, wants};
+ghost use Rattle.rw_plain.specs.RuleParts.{IsOnCell};
+ghost use Rattle.rw_plain.specs.SetValues.{valuation};
+
+use rw_pattern::{Pattern, PatternCell, Tuple, Want};
+use rw_rule::Rule;
+use rw_schema::{Atom, OutOfMemory};
+use rw_table::Table;
+use rw_terms::Valuation;
+use std::alloc::Global;
+
+/// The match's values of the variables, in memory of their own; 0 stands for one that is on no cell of the left pattern.
+pub(crate) fn valuation_of(
+    alloc: Global,
+    rule: &Rule,
+    table: &Table,
+    tuple: &Tuple,
+) -> Result<Valuation, OutOfMemory>
+    requires cells { All (IsOnCell rule.now.goal.left) rule.now.goal.left.cells }
+    requires attributes { length rule.now.goal.left.holders ≡ length table.now.signature.attributes }
+    requires tuple { length tuple.now ≡ sum rule.now.goal.left.sizes }
+    ensures { IfOk result (λ values. values ≡ valuation rule.now tuple.now (instance_of_table table.now)) }
+{
+    let goal = rule.goal();
+    let mut values = Vec::new(alloc);
+    for variable in 0..goal.kinds.len() {
+        values.push(value_of(alloc, &goal.left, table, tuple, variable)?)?;
+    }
+    Ok(Valuation::of(values))
+}
+
+/// The value of a variable, or 0 where it is on no cell.
+fn value_of(
+    alloc: Global,
+    left: &Pattern,
+    table: &Table,
+    tuple: &Tuple,
+    variable: usize,
+) -> Result<Atom, OutOfMemory>
+    requires cells { All (IsOnCell left.now) left.now.cells }
+    requires attributes { length left.now.holders ≡ length table.now.signature.attributes }
+    requires tuple { length tuple.now ≡ sum left.now.sizes }
+    ensures { IfOk result (λ value. value ≡ unwrap_or (value_at left.now (instance_of_table table.now) tuple.now variable) (Int (pos 0))) }
+{
+    match atom_of(left, table, tuple, variable) {
+        Some(atom) => atom.copy(alloc),
+        None => Ok(Atom::Int(0)),
+    }
+}
+
+/// The atom that the first entry of a variable falls on.
+fn atom_of<'a>(
+    left: &Pattern,
+    table: &'a Table,
+    tuple: &Tuple,
+    variable: usize,
+) -> Option<&'a Atom>
+    requires cells { All (IsOnCell left.now) left.now.cells }
+    requires attributes { length left.now.holders ≡ length table.now.signature.attributes }
+    requires tuple { length tuple.now ≡ sum left.now.sizes }
+    ensures { option_map (λ atom. atom.now) result ≡ value_at left.now (instance_of_table table.now) tuple.now variable }
+{
+    let entry = first_of(left, variable)?;
+    table.atom(entry.attr, tuple.names()[left.cell_place(entry)])
+}
+
+/// The first entry of a variable.
+fn first_of(left: &Pattern, variable: usize) -> Option<&PatternCell>
+    requires { All (IsOnCell left.now) left.now.cells }
+    ensures first { option_map (λ entry. entry.now) result ≡ find (λ entry. wants variable entry.want) left.now.cells }
+    ensures there { IfSome result (λ entry. IsOnCell left.now entry.now) }
+{
+    left.cells()
+        .iter()
+        .find(|entry| is_variable(variable, &entry.want))
+}
+
+/// Whether the entry wants the value of the variable.
+fn is_variable(variable: usize, want: &Want) -> bool
+    ensures { result ≡ wants variable want.now }
+{
+    match want {
+        Want::Const(_) => false,
+        Want::Var(other) => variable == *other as usize,
+    }
+}
