@@ -3,6 +3,7 @@
 
 mod entry;
 mod maps;
+mod numbers;
 mod objects;
 mod patterns;
 mod piece;
