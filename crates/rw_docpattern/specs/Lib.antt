@@ -2,6 +2,8 @@ pub mod Forms
 pub mod Maps
 pub mod Numbers
 pub mod Objects
+pub mod OperationViews
+pub mod Operations
 pub mod Patterns
 pub mod Pieces
 pub mod Reads

@@ -4,11 +4,13 @@
 mod entry;
 mod maps;
 mod numbers;
+mod operation;
 mod objects;
 mod patterns;
 mod piece;
 mod sets;
 mod term;
+mod terms;
 
 pub use entry::{Entry, WrittenEntry};
 pub use maps::read_map;
