@@ -2,7 +2,6 @@ pub mod Forms
 pub mod Maps
 pub mod Numbers
 pub mod Objects
-pub mod OperationViews
 pub mod Operations
 pub mod Patterns
 pub mod Pieces
@@ -10,3 +9,4 @@ pub mod Reads
 pub mod Sets
 pub mod Terms
 pub mod Variables
+pub mod Views

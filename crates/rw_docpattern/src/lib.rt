@@ -2,6 +2,7 @@
 #![tactic(auto)]
 
 mod entry;
+mod forms;
 mod maps;
 mod numbers;
 mod operation;

@@ -11,7 +11,7 @@ use serde_json::Value;
 use std::alloc::Global;
 
 /// The count that the value is; one past 32 bits is as good as the greatest of 32 bits.
-fn as_number(value: &Value) -> Option<u32>
+pub(crate) fn as_number(value: &Value) -> Option<u32>
     ensures { result ≡ spec.as_number (view value.now) }
 {
     let count = count_of(value)?;

@@ -5,7 +5,7 @@ ghost use Rattle.serde_json.specs.Find.{as_str, get};
 ghost use Rattle.serde_json.specs.View.{view};
 ghost use Rattle.rw_doc.specs.Json.{as_list};
 ghost use Rattle.rw_docpattern.specs.Operations as spec;
-ghost use Rattle.rw_docpattern.specs.OperationViews.{texts_of};
+ghost use Rattle.rw_docpattern.specs.Views.{texts_of};
 
 use rw_doc::{has_only, items_of};
 use serde_json::Value;
