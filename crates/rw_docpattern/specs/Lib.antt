@@ -1,5 +1,6 @@
 pub mod Forms
 pub mod Maps
+pub mod Numbering
 pub mod Numbers
 pub mod Objects
 pub mod Operations

@@ -13,6 +13,8 @@ mod sets;
 mod term;
 mod terms;
 
+mod variables;
+
 pub use entry::{Entry, WrittenEntry};
 pub use maps::read_map;
 pub use objects::{marks_named, texts_or_none};
