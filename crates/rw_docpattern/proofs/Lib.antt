@@ -1,3 +1,4 @@
 pub mod Listed
 pub mod TermLevels
 pub mod FirstPlaces
+pub mod BareFaults

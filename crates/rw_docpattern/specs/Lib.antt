@@ -1,3 +1,4 @@
+pub mod Bare
 pub mod Forms
 pub mod Maps
 pub mod Numbering

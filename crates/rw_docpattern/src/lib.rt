@@ -1,9 +1,11 @@
 //! Patterns, maps and sets of rules and watches that are read from JSON, each with its exact first fault.
 #![tactic(auto)]
 
+mod bare;
 mod entry;
 mod forms;
 mod maps;
+mod named;
 mod numbers;
 mod operation;
 mod objects;
