@@ -2,6 +2,7 @@
 #![tactic(auto)]
 
 mod bare;
+mod checks;
 mod entry;
 mod forms;
 mod maps;
