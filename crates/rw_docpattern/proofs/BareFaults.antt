@@ -105,7 +105,6 @@ too_many C sizes rows is =
       few = sym found.1;
       range = λ few. let never : ⊥ = cc in absurd never;
       pattern = λ few in_range. let never : ⊥ = cc in absurd never;
-      over = tt;
     }
 
 -- lists with an image that is not there
@@ -119,5 +118,4 @@ astray C sizes rows is =
       few = sym found.1;
       range = λ few. sym found.2;
       pattern = λ few in_range. let never : ⊥ = cc in absurd never;
-      over = tt;
     }

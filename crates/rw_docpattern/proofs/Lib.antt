@@ -2,3 +2,4 @@ pub mod Listed
 pub mod TermLevels
 pub mod FirstPlaces
 pub mod BareFaults
+pub mod DraftSteps

@@ -1,7 +1,7 @@
 -- What is found of the lists of a pattern without entries.
-use Rattle.std.specs.Prelude.{◌≡◌, ℕ, Bool, true, false, is_none, List, [], Option, Some, None, Result, Ok, Err, IfSome, map, if◌then◌else◌}
+use Rattle.std.specs.Prelude.{◌≡◌, ℕ, Bool, true, false, is_none, List, [], Option, Some, None, Result, Ok, Err, if◌then◌else◌}
 use Rattle.rw_schema.specs.Signature.{Signature}
-use Rattle.rw_pattern.specs.PatternFaults.{has_shape, has_few_parts, are_in_range, equation_fault, IsPatternOver}
+use Rattle.rw_pattern.specs.PatternFaults.{has_shape, has_few_parts, are_in_range, equation_fault}
 use Rattle.rw_pattern.specs.PatternLists.{PatternLists, holders_in}
 use Rattle.rw_doc.specs.declared.end.ReadDocEnd.{ReadDocEnd}
 use Rattle.rw_doc.specs.declared.end.ReadDocEnd.TheVariants.{Refused, OutOfMemory}
@@ -23,7 +23,6 @@ pub record IsBare (C : Signature) (lists : PatternLists) (bare : Bare) : Type 0 
   pub few : bare.few ≡ has_few_parts lists
   pub range : bare.few ≡ true → bare.in_range ≡ are_in_range C lists
   pub pattern : bare.few ≡ true → bare.in_range ≡ true → bare.pattern ≡ where_equal C lists
-  pub over : IfSome bare.pattern (IsPatternOver C [])
 
 -- what is found, or the fault where a length is wrong; want of memory may come at any lists
 abbrev pub FindsBare : Signature → Piece → PatternLists → Result Bare ReadDocEnd → Type 0

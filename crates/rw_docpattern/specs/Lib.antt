@@ -1,4 +1,5 @@
 pub mod Bare
+pub mod Drafts
 pub mod Forms
 pub mod Maps
 pub mod Numbering

@@ -1,11 +1,11 @@
 //! Whether the entries of a pattern fit it.
 
-ghost use Rattle.std.specs.Prelude.{◌≡◌, ◌<◌, ◌&&◌, All, length, nat_le, nat_lt, slice_get, slice_index};
+ghost use Rattle.std.specs.Prelude.{◌≡◌, ◌<◌, ◌&&◌, [], All, length, nat_le, slice_get, slice_index};
 ghost use Rattle.std.specs.List.{list_all};
 ghost use Rattle.rw_schema.specs.Atoms.{kind_of};
 ghost use Rattle.rw_schema.specs.Presentation.{signature_of};
-ghost use Rattle.rw_schema.specs.Signature.{holder_of};
 ghost use Rattle.rw_pattern.specs.PatternFaults.{has_kind as has_kind_in};
+ghost use Rattle.rw_docpattern.specs.Bare.{lists_of};
 ghost use Rattle.rw_docpattern.specs.Patterns as spec;
 ghost use Rattle.rw_docpattern.specs.Terms.{is_within_limits};
 
@@ -39,7 +39,7 @@ fn size_of(sizes: &[u32], object: ObjectId) -> u32
 /// Whether the entry is on a part of its attribute's object.
 fn is_on_part(schema: &Schema, sizes: &[u32], entry: &Entry) -> bool
     requires { entry.now.attr.0 < length schema.now.attributes }
-    ensures { result ≡ nat_lt entry.now.part (slice_index sizes.now (holder_of (signature_of schema.now) entry.now.attr.0)) }
+    ensures { result ≡ spec.is_on_part (lists_of (signature_of schema.now) sizes.now []) entry.now }
 {
     entry.part < size_of(sizes, schema.attr(entry.attr).object)
 }
@@ -47,7 +47,7 @@ fn is_on_part(schema: &Schema, sizes: &[u32], entry: &Entry) -> bool
 /// Whether each entry is on a part of its attribute's object.
 pub(crate) fn are_on_parts(schema: &Schema, sizes: &[u32], entries: &[Entry]) -> bool
     requires { All (λ entry. entry.attr.0 < length schema.now.attributes) entries.now }
-    ensures { result ≡ list_all (λ entry. nat_lt entry.part (slice_index sizes.now (holder_of (signature_of schema.now) entry.attr.0))) entries.now }
+    ensures { result ≡ list_all (spec.is_on_part (lists_of (signature_of schema.now) sizes.now [])) entries.now }
 {
     for entry in entries {
         if !is_on_part(schema, sizes, entry) {

@@ -3,6 +3,7 @@
 
 mod bare;
 mod checks;
+mod draft;
 mod entry;
 mod forms;
 mod maps;
