@@ -18,6 +18,7 @@ mod term;
 mod terms;
 
 mod variables;
+mod wants;
 
 pub use entry::{Entry, WrittenEntry};
 pub use maps::read_map;
