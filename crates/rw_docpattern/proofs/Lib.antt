@@ -1,1 +1,5 @@
-
+pub mod Listed
+pub mod TermLevels
+pub mod FirstPlaces
+pub mod BareFaults
+pub mod DraftSteps

@@ -1,10 +1,15 @@
+pub mod Bare
+pub mod Drafts
 pub mod Forms
 pub mod Maps
+pub mod Numbering
 pub mod Numbers
 pub mod Objects
+pub mod Operations
 pub mod Patterns
 pub mod Pieces
 pub mod Reads
 pub mod Sets
 pub mod Terms
 pub mod Variables
+pub mod Views

@@ -29,12 +29,12 @@ operation_of read value =
     else None
 
 -- the term that a value is, with at most so many levels: an atom, a variable or an operation
-pub term_within : ℕ → Data → Option WrittenTerm
+unfoldable pub term_within : ℕ → Data → Option WrittenTerm
 term_within zero value = None
 term_within (suc levels) value = or_else (option_map Const (atom_of value)) (or_else (variable_of value) (operation_of (term_within levels) value))
 
 -- how deep values nest in a text at most, so no term has more levels
-pub most_nesting : ℕ
+unfoldable pub most_nesting : ℕ
 most_nesting = 127
 
 -- the term that a value is

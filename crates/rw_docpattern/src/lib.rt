@@ -1,13 +1,24 @@
 //! Patterns, maps and sets of rules and watches that are read from JSON, each with its exact first fault.
 #![tactic(auto)]
 
+mod bare;
+mod checks;
+mod draft;
 mod entry;
+mod forms;
 mod maps;
+mod named;
+mod numbers;
+mod operation;
 mod objects;
 mod patterns;
 mod piece;
 mod sets;
 mod term;
+mod terms;
+
+mod variables;
+mod wants;
 
 pub use entry::{Entry, WrittenEntry};
 pub use maps::read_map;
