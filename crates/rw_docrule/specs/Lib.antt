@@ -1,5 +1,6 @@
 pub mod Documents
 pub mod Heads
+pub mod Members
 pub mod Models
 pub mod Rules
 pub mod Watches

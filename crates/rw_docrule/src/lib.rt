@@ -2,6 +2,7 @@
 #![tactic(auto)]
 
 mod document;
+mod members;
 mod read;
 
 pub use document::Document;
