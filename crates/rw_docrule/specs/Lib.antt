@@ -2,5 +2,6 @@ pub mod Documents
 pub mod Heads
 pub mod Members
 pub mod Models
+pub mod Reads
 pub mod Rules
 pub mod Watches

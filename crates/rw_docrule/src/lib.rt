@@ -2,6 +2,7 @@
 #![tactic(auto)]
 
 mod document;
+mod heads;
 mod members;
 mod read;
 
