@@ -1,16 +1,21 @@
 //! Rewriting rules: spans of patterns.
 #![tactic(auto)]
 
+mod check;
 mod condition;
+mod cycle;
 mod fault;
+mod given;
 mod goal;
 mod images;
 mod kind;
+mod maps;
 mod parts;
 mod plain;
 mod refusal;
 mod rule;
 mod set;
+mod sets;
 mod watch;
 
 pub use condition::Condition;

@@ -2,10 +2,11 @@
 
 ghost use Rattle.std.specs.Prelude.{◌≡◌, ◌<◌, ◌^◌, IfOk, length};
 ghost use Rattle.rw_schema.specs.Presentation.{signature_of};
-ghost use Rattle.rw_rule.specs.RuleFaults.{AreOver, BuildsRule, IsRuleOver};
+ghost use Rattle.rw_rule.specs.RuleFaults.{AreOver, BuildsRule, IsRuleOver, built, monic_of};
 ghost use Rattle.rw_rule.specs.RuleParts.{goal_of_parts, rule_of_parts};
 ghost use Rattle.rw_terms.specs.OpEntries.{entries};
 
+use crate::check::first_fault;
 use crate::{Goal, RuleFault, RuleKind, RuleParts, SetCell};
 use rw_pattern::Pattern;
 use rw_schema::{PartMap, Schema, Text};
@@ -68,7 +69,37 @@ impl Rule {
         ensures builds { BuildsRule (signature_of schema.now) (length (entries ops.now)) (rule_of_parts parts) result }
         ensures over { IfOk result (IsRuleOver (signature_of schema.now) (length (entries ops.now))) }
     {
-        Err(RuleFault::OutOfMemory)
+        match first_fault(alloc, schema, &parts, ops.len())? {
+            Some(fault) => Err(fault),
+            None => Ok(Rule::of_parts(parts)),
+        }
+    }
+
+    /// The rule of the parts. Whether they are a rule is not looked at here.
+    fn of_parts(parts: RuleParts) -> Rule
+        ensures { result ≡ built (rule_of_parts parts) }
+    {
+        let RuleParts {
+            name,
+            kind,
+            mut goal,
+            keep,
+            right,
+            sets,
+            l,
+            r,
+        } = parts;
+        make_monic(kind, &mut goal.monic);
+        Rule {
+            name,
+            kind,
+            goal,
+            keep,
+            right,
+            sets,
+            l,
+            r,
+        }
     }
 
     pub fn name(&self) -> &Text
@@ -123,5 +154,14 @@ impl Rule {
         ensures { result.now ≡ self.now.r }
     {
         &self.r
+    }
+}
+
+/// In a sesqui-pushout rule, makes all objects monic.
+fn make_monic(kind: RuleKind, monic: &mut Vec<bool>)
+    ensures { monic.new.items ≡ monic_of kind monic.old.items }
+{
+    if kind.is_sqpo() {
+        monic.fill(true);
     }
 }
