@@ -1,5 +1,6 @@
 pub mod Documents
 pub mod Heads
+pub mod Known
 pub mod Members
 pub mod Models
 pub mod Reads

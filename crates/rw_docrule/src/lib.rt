@@ -5,6 +5,7 @@ mod document;
 mod heads;
 mod members;
 mod read;
+mod rules;
 
 pub use document::Document;
 pub use read::read_document;
