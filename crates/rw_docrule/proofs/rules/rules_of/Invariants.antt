@@ -10,7 +10,7 @@ use Rattle.rw_docrule.specs.Rules as spec
 use Rattle.rw_docrule.proofs.rules.rules_of.Given as goal
 
 abbrev pub invariant-loop-place : goal.invariant-loop-place
-invariant-loop-place l = record {
+invariant-loop-place g l = record {
   gives : ReadBehind (spec.read_rule l.schema (entries l.ops)) l.items l.place (map rule_read l.rules.items);
   known : All (λ read. IsRuleUnlessCyclic (signature_of l.schema) (length (entries l.ops)) (rule_of_parts read.parts)) l.rules.items;
   names : l.names ≡ spec.names_of_rules (map rule_read l.rules.items);
