@@ -6,6 +6,7 @@ mod heads;
 mod members;
 mod read;
 mod rules;
+mod watches;
 
 pub use document::Document;
 pub use read::read_document;
