@@ -1,1 +1,6 @@
 mod Checked
+mod FirstReadings
+mod Marks
+mod ReadMaps
+mod RightSets
+mod SoundRules

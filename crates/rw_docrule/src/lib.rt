@@ -2,7 +2,11 @@
 #![tactic(auto)]
 
 mod document;
+mod heads;
+mod members;
 mod read;
+mod rules;
+mod watches;
 
 pub use document::Document;
 pub use read::read_document;

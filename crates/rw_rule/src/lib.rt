@@ -20,6 +20,7 @@ mod watch;
 
 pub use condition::Condition;
 pub use fault::RuleFault;
+pub use given::first_value_missing;
 pub use goal::Goal;
 pub use images::is_one_to_one;
 pub use kind::RuleKind;

@@ -1,0 +1,83 @@
+-- The lists of a rule that is read have no fault but that arrows may lead round a cycle.
+use Rattle.std.proofs.Common.{◌≡◌, ℕ, Bool, true, false, not, ◌&&◌, ◌||◌, is_none, Some, None, Result, Ok, List, [], ◌∷◌, length, refl, subst}
+use Rattle.rw_schema.specs.Presentation.{Presentation, signature_of}
+use Rattle.rw_schema.specs.Signature.{Signature}
+use Rattle.rw_pattern.specs.PatternLists.{PatternLists}
+use Rattle.rw_terms.specs.OpTables.{OpEntry}
+use Rattle.rw_rule.specs.declared.fault.RuleFault.TheVariants.{Unbound, BadTerm}
+use Rattle.rw_rule.specs.declared.kind.RuleKind.{RuleKind}
+use Rattle.rw_rule.specs.declared.set.SetCell.{SetCell}
+use Rattle.rw_rule.specs.Images.{is_injective}
+use Rattle.rw_rule.specs.RuleFaults.{is_map, is_sqpo, rule_fault}
+use Rattle.rw_rule.specs.RuleLists.{RuleLists}
+use Rattle.rw_rule.specs.Sets.{fits_set, is_closed, value_missing}
+use Rattle.rw_doc.proofs.Chains.{chain}
+use Rattle.rw_doc.proofs.Faultless.{none_unless}
+use Rattle.rw_docpattern.specs.Maps.{read_map}
+use Rattle.rw_docpattern.specs.Patterns.{read_bare_pattern, read_pattern}
+use Rattle.rw_docpattern.specs.Pieces.{fault_in}
+use Rattle.rw_docpattern.specs.Sets.{read_right}
+use Rattle.rw_docrule.specs.Heads.{RuleHead, RuleMembers}
+use Rattle.rw_docrule.specs.Rules.{Sides, read_l, read_r, read_sides, rule_piece, rule_with}
+use Rattle.rw_docrule.proofs.Checked.{none_is, passed}
+use Rattle.rw_docrule.proofs.ReadMaps.{map_read}
+use Rattle.rw_docrule.proofs.RightSets.{AreSets, sets_read}
+
+-- the sets of the right pattern fit
+sides_fit : (schema : Presentation) (ops : List OpEntry) (place : ℕ) (members : RuleMembers) (sides : Sides)
+    → read_sides schema ops place members ≡ Ok sides → AreSets (signature_of schema) ops sides.left sides.right
+sides_fit schema ops place members =
+    let P : Sides → Type 0 = λ sides. AreSets (signature_of schema) ops sides.left sides.right in
+    chain P (read_pattern schema (rule_piece place 1) members.left) _
+    (λ left is_left. chain P (read_bare_pattern schema (rule_piece place 2) members.keep) _
+    (λ keep is_keep. chain P (read_right schema ops (rule_piece place 3) left members.right) _
+    (λ right is_right sides is. let same : record { left = left; keep = keep; right = right } ≡ sides = cc in
+    subst P same (sets_read schema ops (rule_piece place 3) left members.right right is_right))))
+
+-- the images are a map to the left, which is injective but in a sesqui-pushout rule
+record IsMapToLeft (C : Signature) (kind : RuleKind) (sides : Sides) (l : List (List ℕ)) : Type 0 where
+  map : is_map C sides.keep sides.left.pattern l ≡ true
+  apart : (is_sqpo kind || is_injective sides.keep l) ≡ true
+
+-- so are images that are read
+l_fits : (schema : Presentation) (place : ℕ) (kind : RuleKind) (sides : Sides) (members : RuleMembers) (l : List (List ℕ))
+    → read_l schema place kind sides members ≡ Ok l → IsMapToLeft (signature_of schema) kind sides l
+l_fits schema place kind sides members =
+    let C : Signature = signature_of schema in
+    let P : List (List ℕ) → Type 0 = IsMapToLeft C kind sides in
+    chain P (read_map C (rule_piece place 4) sides.keep sides.left.pattern members.l) _
+    (λ images read. passed P (fault_in (rule_piece place 4) 12) (is_sqpo kind || is_injective sides.keep images) images
+    (λ apart. record { map = (map_read C (rule_piece place 4) sides.keep sides.left.pattern members.l images read).map; apart = apart }))
+
+-- no cycle is known
+no_cycle : (sqpo : Bool) → not (sqpo && false) ≡ true
+no_cycle true = refl
+no_cycle false = refl
+
+-- lists that fit have no fault
+lists_sound : (C : Signature) (ops : List OpEntry) (head : RuleHead) (sides : Sides) (l r : List (List ℕ)) → AreSets C ops sides.left sides.right
+    → IsMapToLeft C head.kind sides l → is_map C sides.keep sides.right.pattern r ≡ true → value_missing C (rule_with head sides l r) ≡ None
+    → rule_fault C (length ops) false (rule_with head sides l r) ≡ None
+lists_sound C ops head sides l r sets left right given =
+    let rule : RuleLists = rule_with head sides l r in
+    rw (
+      left.map,
+      right,
+      left.apart,
+      no_cycle (is_sqpo head.kind),
+      none_unless (λ (set : SetCell). is_closed sides.left.pattern set.term) Unbound 0 sides.right.sets sets.closed,
+      none_unless (fits_set C (length ops) rule) BadTerm 0 sides.right.sets sets.fit,
+      sets.once,
+    ) given
+
+-- lists that are read have no fault
+pub rule_sound : (schema : Presentation) (ops : List OpEntry) (place : ℕ) (members : RuleMembers) (head : RuleHead) (sides : Sides) (l : List (List ℕ)) (rule : RuleLists)
+    → read_sides schema ops place members ≡ Ok sides → read_l schema place head.kind sides members ≡ Ok l → read_r schema place head sides l members ≡ Ok rule
+    → rule_fault (signature_of schema) (length ops) false rule ≡ None
+rule_sound schema ops place members head sides l rule sides_are left =
+    let C : Signature = signature_of schema in
+    let P : RuleLists → Type 0 = λ rule. rule_fault C (length ops) false rule ≡ None in
+    chain P (read_map C (rule_piece place 5) sides.keep sides.right.pattern members.r) _
+    (λ r read. passed P (fault_in (rule_piece place 5) 14) (is_none (value_missing C (rule_with head sides l r))) (rule_with head sides l r)
+    (λ given. lists_sound C ops head sides l r (sides_fit schema ops place members sides sides_are) (l_fits schema place head.kind sides members l left)
+    (map_read C (rule_piece place 5) sides.keep sides.right.pattern members.r r read).map (none_is (value_missing C (rule_with head sides l r)) given))) rule
