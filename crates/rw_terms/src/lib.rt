@@ -17,6 +17,7 @@ mod valuation;
 pub use code::OpCode;
 pub use fault::OpFault;
 pub use op::{Op, Run};
+pub use sqlite_items::Boxed;
 pub use table::OpTable;
 pub use term::{Term, eval};
 pub use valuation::Valuation;

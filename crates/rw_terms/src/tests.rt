@@ -4,8 +4,7 @@ ghost use Rattle.std.specs.Prelude.{◌≡◌};
 ghost use Rattle.rw_terms.specs.OpValues.{op_value};
 
 use crate::*;
-use rw_schema::{Atom, Text};
-use sqlite_items::Boxed;
+use rw_schema::{Atom, Kind, Text};
 use std::test::Fail;
 
 #[test]
@@ -83,5 +82,19 @@ fn evaluates_a_nested_term(rt: HostRuntime) -> Result<(), Fail> {
     let two = Boxed::new(alloc, Term::Const(Atom::Int(2)))?;
     let term = Term::Op(0, seven, two);
     assert!(rt; eval(alloc, &term, &valuation, &ops)? == Some(Atom::Int(5)));
+    Ok(())
+}
+
+#[test]
+fn tells_the_kind_and_the_levels_of_a_term(rt: HostRuntime) -> Result<(), Fail> {
+    let alloc = rt.alloc();
+    let first = Boxed::new(alloc, Term::Var(0))?;
+    let second = Boxed::new(alloc, Term::Const(Atom::Int(3)))?;
+    let term = Term::Op(0, first, second);
+    assert!(rt; term.kind(&[Kind::Int], 1) == Some(Kind::Int));
+    assert!(rt; term.kind(&[Kind::Text], 1).is_none());
+    assert!(rt; term.kind(&[Kind::Int], 0).is_none());
+    assert!(rt; term.is_within(2));
+    assert!(rt; !term.is_within(1));
     Ok(())
 }
