@@ -1,5 +1,5 @@
 -- Atoms after a step are of their attributes' kinds.
-use Rattle.std.proofs.Common.{◌≡◌, ◌==◌, ◌∙◌, ℕ, zero, suc, Bool, true, ◌&&◌, List, [], ◌∷◌, find, length, Option, Some, None, slice_get, refl, sym, ap, inl, inr, eqb-true}
+use Rattle.std.proofs.Common.{◌≡◌, ◌==◌, ◌∙◌, ℕ, zero, suc, Bool, true, List, [], ◌∷◌, find, length, Option, Some, None, slice_get, refl, sym, ap, inl, inr, eqb-true}
 use Rattle.std.specs.List.{list_any}
 use Rattle.std.proofs.lemmas.Bool.{and_parts, both_ways, cases_Bool}
 use Rattle.rw_schema.specs.declared.atom.Atom.{Atom}
@@ -7,7 +7,7 @@ use Rattle.rw_schema.specs.declared.signature.AttrEnds.{AttrEnds}
 use Rattle.rw_schema.specs.Atoms.{kind_of}
 use Rattle.rw_schema.specs.RowLists.{RowLists, list_at}
 use Rattle.rw_schema.specs.Signature.{Signature}
-use Rattle.rw_spec.specs.Instance.{Instance, instance_of}
+use Rattle.rw_spec.specs.Instance.{instance_of}
 use Rattle.rw_spec.proofs.Look.{contains_found, found_contained, look_missing}
 use Rattle.rw_spec.proofs.Signatures.{holder_is}
 use Rattle.rw_table.specs.TableFaults.{table_fault}

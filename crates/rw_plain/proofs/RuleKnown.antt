@@ -1,5 +1,5 @@
 -- What the faults that a rule does not have say of it.
-use Rattle.std.proofs.Common.{◌≡◌, ℕ, Bool, true, not, ◌&&◌, is_none, List, Option, Some, None, slice_get, refl}
+use Rattle.std.proofs.Common.{◌≡◌, ℕ, Bool, true, not, ◌&&◌, is_none, Option, Some, None, slice_get, refl}
 use Rattle.std.specs.List.{list_all}
 use Rattle.std.proofs.lemmas.Bool.{and_parts}
 use Rattle.rw_schema.specs.First.{or_else, fault_unless}
@@ -8,7 +8,7 @@ use Rattle.rw_schema.proofs.Firsts.{all_unless, or_else_none, passed_unless}
 use Rattle.rw_schema.proofs.Lists.{list_all_at}
 use Rattle.rw_pattern.specs.MapFaults.{map_fault}
 use Rattle.rw_pattern.proofs.Sequences.{list_all_from_each}
-use Rattle.rw_rule.specs.RuleFaults.{are_maps, is_apart, is_map, is_sqpo, rule_fault, IsRuleOver}
+use Rattle.rw_rule.specs.RuleFaults.{are_maps, is_apart, is_map, is_sqpo, IsRuleOver}
 use Rattle.rw_rule.specs.RuleLists.{ConditionLists, RuleLists}
 use Rattle.rw_rule.specs.Sets.{bad_set, fits_set, fits_term, is_closed, is_on_part, set_again, unbound_set, value_missing}
 use Rattle.rw_rule.specs.declared.fault.RuleFault.{RuleFault}

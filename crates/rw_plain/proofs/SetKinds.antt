@@ -1,6 +1,6 @@
 -- At a match the terms of a rule's sets can be evaluated, and their values are of their attributes' kinds.
-use Rattle.std.proofs.Common.{◌≡◌, ℕ, ◌<◌, Bool, true, ◌&&◌, nat_le, pos, unwrap_or, option_map, sum, All, Contains, get_or, List, map, length, Option, Some, None, slice_get, refl, sym, ap, ◌∙◌, zero-add}
-use Rattle.std.specs.List.{list_any, range_with_len}
+use Rattle.std.proofs.Common.{◌≡◌, ℕ, ◌<◌, true, nat_le, pos, unwrap_or, option_map, sum, All, Contains, get_or, List, length, Option, Some, None, slice_get, refl, sym, ap, ◌∙◌}
+use Rattle.std.specs.List.{range_with_len}
 use Rattle.std.proofs.lemmas.Bool.{and_parts, eqb-true}
 use Rattle.std.proofs.lemmas.List.Folds.{Any-from_list_any}
 use Rattle.std.proofs.lemmas.Option.{slice_get_within, slice_get-get_or, slice_get-map}
@@ -32,7 +32,7 @@ use Rattle.rw_terms.specs.TermKinds.{depth_of, kind_of_term}
 use Rattle.rw_terms.specs.Terms.{is_evaluable}
 use Rattle.rw_terms.proofs.TermKinds.{HaveKinds, IsOfKind, is_of_kind}
 use Rattle.rw_rule.specs.RuleLists.{RuleLists}
-use Rattle.rw_rule.specs.Sets.{fits_term, is_bound, is_kind_of, most_levels}
+use Rattle.rw_rule.specs.Sets.{is_bound, is_kind_of, most_levels}
 use Rattle.rw_rule.specs.declared.set.SetCell.{SetCell}
 use Rattle.rw_plain.specs.RuleParts.{IsOnCell}
 use Rattle.rw_plain.specs.SetValues.{valuation}
@@ -132,8 +132,7 @@ value_kind C rule tuple rows met variable kind known kind_is =
     let name : ℕ = map_of_tuple left tuple (holder left attr) entry.part in
     let known_object : holder left attr < C.objects = rw object (met.category.holders attr ends.0 ends.1) in
     let has : Has X ends.0.object.0 name = rw (← object) (met.natural.parts (holder left attr) entry.part known_object (has_part left (holder left attr) entry.part part)) in
-    let holds : X.cell attr name ≡ Some atom = meets known.place entry known.there ∙ ap (λ want. Some (atom_wanted values want)) known.want in
-    (
+    let holds : X.cell attr name ≡ Some atom = meets known.place entry known.there ∙ ap (λ want. Some (atom_wanted values want)) known.want in (
       atom,
       values_read left X tuple values meets known.place variable entry known.there known.want,
       (table_instance C rows met.sound).atoms attr ends.0 name atom ends.1 has holds ∙ sym ends.2,
@@ -146,11 +145,10 @@ variables_known C rule tuple rows met = λ variable kind bound kind_is.
     let X : Instance = instance_of C rows in
     let given = value_kind C rule tuple rows met variable kind (entry_of rule.goal.left variable bound) kind_is in
     let value : ℕ → Atom = λ variable. unwrap_or (value_of rule.goal.left X tuple variable) (atoms.Int (pos 0)) in
-    let there : slice_get (range_with_len 0 (length rule.goal.kinds)) variable ≡ Some variable = range_at (length rule.goal.kinds) variable (slice_get_within rule.goal.kinds variable kind kind_is) in
-    (
+    let there : slice_get (range_with_len 0 (length rule.goal.kinds)) variable ≡ Some variable = range_at (length rule.goal.kinds) variable (slice_get_within rule.goal.kinds variable kind kind_is) in (
       given.0,
       slice_get-map value (range_with_len 0 (length rule.goal.kinds)) variable ∙ ap (option_map value) there
-      ∙ ap (λ found. Some (unwrap_or found (atoms.Int (pos 0)))) given.1,
+          ∙ ap (λ found. Some (unwrap_or found (atoms.Int (pos 0)))) given.1,
       given.2,
     )
 

@@ -1,9 +1,8 @@
 -- The cells that a rule's sets are on.
-use Rattle.std.proofs.Common.{◌≡◌, ℕ, ◌<◌, Some, List, length, get_or, slice_get, refl, sym, ap, ◌∙◌, ltb-true, subst}
+use Rattle.std.proofs.Common.{◌≡◌, ℕ, ◌<◌, Some, List, length, get_or, slice_get, refl, ltb-true}
 use Rattle.std.proofs.lemmas.Option.{slice_get_read}
 use Rattle.rw_schema.specs.declared.parts.AttrDef.{AttrDef}
 use Rattle.rw_schema.specs.Presentation.{Presentation, signature_of}
-use Rattle.rw_schema.specs.Signature.{Signature}
 use Rattle.rw_schema.proofs.Lists.{list_all_at}
 use Rattle.rw_pattern.specs.PatternLists.{holder, size_of}
 use Rattle.rw_pattern.proofs.Over.{holder_is}

@@ -1,5 +1,5 @@
 -- The values that a step sets cells to.
-use Rattle.std.specs.Prelude.{◌==◌, ℕ, pos, Bool, not, ◌&&◌, is_none, map, unwrap_or, length, List, Option, Some, None}
+use Rattle.std.specs.Prelude.{◌==◌, ℕ, pos, Bool, not, ◌&&◌, is_none, map, unwrap_or, length, List, Option}
 use Rattle.std.specs.List.{list_any, range_with_len}
 use Rattle.rw_schema.specs.declared.atom.Atom.{Atom}
 use Rattle.rw_schema.specs.declared.atom.Atom.TheVariants.{Int}

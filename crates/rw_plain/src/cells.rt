@@ -48,9 +48,7 @@ pub(crate) fn all_cells_after(
         let attr = AttrId(number as u16);
         let names = names[ends.object.0 as usize].as_slice();
         let set_names = set_names.as_slice();
-        cells.push(cells_after(
-            alloc, rule, table, set_names, values, attr, names,
-        )?)?;
+        cells.push(cells_after(alloc, rule, table, set_names, values, attr, names)?)?;
     }
     Ok(cells)
 }
@@ -96,9 +94,7 @@ fn cells_after(
 {
     let mut cells = Vec::new(alloc);
     for name in names {
-        cells.push(cell_after(
-            alloc, rule, table, set_names, values, attr, *name,
-        )?)?;
+        cells.push(cell_after(alloc, rule, table, set_names, values, attr, *name)?)?;
     }
     Ok(cells)
 }

@@ -1,4 +1,4 @@
-//! The step of a double-pushout rule whose maps are injective, at an injective match.
+//! The step of a double-pushout rule whose maps are injective, at an injective match, with the cells that it sets.
 #![tactic(auto)]
 
 mod cells;

@@ -7,6 +7,7 @@ ghost use Rattle.rw_pattern.specs.PatternLists.{holders_in};
 ghost use Rattle.rw_table.specs.Tabled.{IsOver};
 ghost use Rattle.rw_rule.specs.PlainRules.{is_plain};
 ghost use Rattle.rw_rule.specs.RuleFaults.{IsRuleOver};
+ghost use Rattle.rw_terms.specs.OpEntries.{entries};
 
 use super::*;
 use rw_pattern::{Pattern, PatternParts, Tuple};
@@ -16,6 +17,7 @@ use rw_schema::{
     Text,
 };
 use rw_table::Table;
+use rw_terms::OpTable;
 use std::alloc::Global;
 use std::test::Fail;
 
@@ -62,11 +64,11 @@ fn pattern(alloc: Global, schema: &Schema, size: u32, partners: &[u32]) -> Resul
 }
 
 // A point that is its own partner is deleted, and two that are each other's are made.
-fn replace(alloc: Global, schema: &Schema) -> Result<Rule, Fail>
+fn replace(alloc: Global, schema: &Schema, ops: &OpTable) -> Result<Rule, Fail>
     requires objects { length schema.now.objects ≡ 1 }
     requires attributes { schema.now.attributes ≡ [] }
-    ensures rule { IfOk result (λ rule. IsRuleOver (signature_of schema.now) rule) }
-    ensures plain { IfOk result (λ rule. is_plain (signature_of schema.now) rule ≡ true) }
+    ensures rule { IfOk result (IsRuleOver (signature_of schema.now) (length (entries ops.now))) }
+    ensures plain { IfOk result (λ rule. is_plain rule ≡ true) }
     ensures left { IfOk result (λ rule. rule.goal.left ≡ record { sizes = 1 ∷ []; rows = (0 ∷ []) ∷ []; cells = []; holders = holders_in (signature_of schema.now) }) }
     ensures monic { IfOk result (λ rule. rule.goal.monic ≡ true ∷ []) }
 {
@@ -81,13 +83,19 @@ fn replace(alloc: Global, schema: &Schema) -> Result<Rule, Fail>
     let parts = RuleParts {
         name,
         kind: RuleKind::Dpo,
-        goal: Goal { left, monic, kinds },
+        goal: Goal {
+            left,
+            monic,
+            conditions: Vec::new(alloc),
+            kinds,
+        },
         keep,
         right,
+        sets: Vec::new(alloc),
         l,
         r,
     };
-    Ok(Rule::build(schema, parts)?)
+    Ok(Rule::build(alloc, schema, parts, ops)?)
 }
 
 // The points 1 and 3, each its own partner, and 4 is the next one.
@@ -125,10 +133,11 @@ fn replace_first(
     schema: &Schema,
     rule: &Rule,
     table: &Table,
+    ops: &OpTable,
 ) -> Result<Verdict, OutOfMemory>
     requires arrows { map ends_of_arrow schema.now.arrows ≡ record { source = record { 0 = 0 }; target = record { 0 = 0 } } ∷ [] }
-    requires rule { IsRuleOver (signature_of schema.now) rule.now }
-    requires plain { is_plain (signature_of schema.now) rule.now ≡ true }
+    requires rule { IsRuleOver (signature_of schema.now) (length (entries ops.now)) rule.now }
+    requires plain { is_plain rule.now ≡ true }
     requires left { rule.now.goal.left ≡ record { sizes = 1 ∷ []; rows = (0 ∷ []) ∷ []; cells = []; holders = holders_in (signature_of schema.now) } }
     requires monic { rule.now.goal.monic ≡ true ∷ [] }
     requires table { IsOver schema.now table.now }
@@ -136,7 +145,7 @@ fn replace_first(
     requires partners { table.now.rows.arrows ≡ (1 ∷ 3 ∷ []) ∷ [] }
 {
     let tuple = Tuple::of(alloc, &[1])?;
-    try_match(alloc, schema, rule, table, &tuple)
+    try_match(alloc, schema, rule, table, &tuple, ops)
 }
 
 // The verdict on the rule at the point 1.
@@ -145,9 +154,10 @@ fn verdict(alloc: Global, schema: &Schema) -> Result<Verdict, Fail>
     requires arrows { map ends_of_arrow schema.now.arrows ≡ record { source = record { 0 = 0 }; target = record { 0 = 0 } } ∷ [] }
     requires attributes { schema.now.attributes ≡ [] }
 {
-    let rule = replace(alloc, schema)?;
+    let ops = OpTable::new(alloc);
+    let rule = replace(alloc, schema, &ops)?;
     let table = table(alloc, schema)?;
-    Ok(replace_first(alloc, schema, &rule, &table)?)
+    Ok(replace_first(alloc, schema, &rule, &table, &ops)?)
 }
 
 #[test]

@@ -55,12 +55,7 @@ fn value_of(
 }
 
 /// The atom that the first entry of a variable falls on.
-fn atom_of<'a>(
-    left: &Pattern,
-    table: &'a Table,
-    tuple: &Tuple,
-    variable: usize,
-) -> Option<&'a Atom>
+fn atom_of<'a>(left: &Pattern, table: &'a Table, tuple: &Tuple, variable: usize) -> Option<&'a Atom>
     requires cells { All (IsOnCell left.now) left.now.cells }
     requires attributes { length left.now.holders ≡ length table.now.signature.attributes }
     requires tuple { length tuple.now ≡ sum left.now.sizes }

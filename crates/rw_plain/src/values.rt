@@ -71,7 +71,13 @@ fn value_of_new(
 
 /// The name that a part of the right side has after the step: that of the kept part whose image it is, else its own
 /// new name.
-pub(crate) fn name_of_right(rule: &Rule, rows: &Rows, tuple: &Tuple, object: ObjectId, part: u32) -> u32
+pub(crate) fn name_of_right(
+    rule: &Rule,
+    rows: &Rows,
+    tuple: &Tuple,
+    object: ObjectId,
+    part: u32,
+) -> u32
     requires next { object.0 < length rows.now.next }
     requires object { HasObject rule.now object.0 }
     requires tuple { length tuple.now ≡ sum rule.now.goal.left.sizes }

@@ -1,5 +1,5 @@
 -- The set at the place is on the cell, and no earlier one is.
-use Rattle.std.proofs.Common.{◌≡◌, ◌==◌, ◌<◌, ℕ, Bool, true, Some, List, map, length, get_or, drop, find, slice_get, refl, sym, ap, ◌∙◌, drop-cons, eq-eqb}
+use Rattle.std.proofs.Common.{◌≡◌, ◌==◌, ◌<◌, ℕ, Bool, true, List, length, get_or, drop, find, slice_get, refl, sym, ap, ◌∙◌, drop-cons, eq-eqb}
 use Rattle.std.proofs.lemmas.Bool.{and_from}
 use Rattle.std.proofs.lemmas.List.{get_or-map}
 use Rattle.std.proofs.lemmas.Option.{slice_get_read}

@@ -1,11 +1,9 @@
 -- The row of an arrow goes behind the others.
-use Rattle.std.proofs.Common.{◌≡◌, ℕ, ◌+◌, ◌<◌, List, [], ◌∷◌, ◌++◌, map, length, get_or, take, refl, sym, ap, ◌∙◌, arith}
-use Rattle.std.proofs.lemmas.List.{map_push, length-map, get_or-map}
+use Rattle.std.proofs.Common.{◌≡◌, ℕ, List, map, length, refl, ap, ◌∙◌, arith}
+use Rattle.std.proofs.lemmas.List.{map_push}
 use Rattle.rw_schema.specs.declared.parts.ArrowDef.{ArrowDef}
 use Rattle.rw_schema.specs.declared.signature.ArrowEnds.{ArrowEnds}
-use Rattle.rw_schema.specs.First.{map_in}
 use Rattle.rw_schema.specs.Presentation.{ends_of_arrow}
-use Rattle.rw_schema.proofs.Lists.{map_in_more}
 use Rattle.rw_spec.specs.Instance.{Instance}
 use Rattle.rw_rule.specs.RuleLists.{RuleLists}
 use Rattle.rw_table.specs.Tabled.{Tabled, instance_of_table}

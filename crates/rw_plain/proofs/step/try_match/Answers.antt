@@ -1,11 +1,10 @@
 -- A rule over the schema has what the parts of the step ask of it, and the lists after the step have no fault.
-use Rattle.std.proofs.Common.{◌≡◌, List, length, sym, ◌∙◌}
+use Rattle.std.proofs.Common.{List, length, sym, ◌∙◌}
 use Rattle.std.proofs.lemmas.List.{length-map}
 use Rattle.rw_schema.specs.Presentation.{signature_of}
 use Rattle.rw_schema.specs.RowLists.{RowLists}
 use Rattle.rw_schema.specs.Signature.{Signature}
-use Rattle.rw_table.specs.Tabled.{Tabled, instance_of_table}
-use Rattle.rw_terms.specs.declared.code.OpCode.{OpCode}
+use Rattle.rw_table.specs.Tabled.{instance_of_table}
 use Rattle.rw_terms.specs.OpEntries.{entries}
 use Rattle.rw_terms.specs.OpTables.{OpEntry, codes_of}
 use Rattle.rw_rule.specs.RuleFaults.{IsRuleOver}
