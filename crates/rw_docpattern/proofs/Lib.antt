@@ -3,3 +3,6 @@ pub mod TermLevels
 pub mod FirstPlaces
 pub mod BareFaults
 pub mod DraftSteps
+pub mod Checked
+pub mod SoundDrafts
+pub mod DraftTurns

@@ -9,6 +9,7 @@ ghost use Rattle.rw_docpattern.specs.Patterns as spec;
 ghost use Rattle.rw_docpattern.specs.Reads.{pattern_read};
 
 use crate::Piece;
+use crate::draft::read_draft;
 use rw_doc::ReadDocEnd;
 use rw_pattern::Pattern;
 use rw_schema::{Kind, Names, Schema};
@@ -34,7 +35,8 @@ pub fn read_bare_pattern(
     ensures over { IfOk result (IsPatternOver (signature_of schema.now) []) }
     ensures free { IfOk result (λ pattern. pattern.cells ≡ []) }
 {
-    Err(ReadDocEnd::OutOfMemory)
+    let draft = read_draft(alloc, schema, piece, &["parts", "rows"], value)?;
+    Ok(draft.bare)
 }
 
 /// A pattern whose entries want constants and variables, which are numbered by their first places.
