@@ -1,3 +1,4 @@
+mod BuiltRules
 mod Checked
 mod FirstReadings
 mod Marks

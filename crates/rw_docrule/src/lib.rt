@@ -1,6 +1,7 @@
 //! Documents: schemas, instances, rules and watches that are read from JSON.
 #![tactic(auto)]
 
+mod build;
 mod document;
 mod heads;
 mod members;

@@ -1,7 +1,7 @@
 -- The rule and its name are put behind those before it.
 use Rattle.std.proofs.Common.{◌≡◌, ◌∙◌, ◌+◌, ℕ, Ok, List, [], ◌∷◌, ◌++◌, length, map, length-append, arith}
 use Rattle.std.proofs.lemmas.List.{length-map, map-append}
-use Rattle.std.proofs.lemmas.List.Elements.{All-append, All-cons, All-nil}
+use Rattle.std.proofs.lemmas.List.Elements.{All-push}
 use Rattle.serde_json.specs.View.{view}
 use Rattle.rw_schema.specs.Presentation.{signature_of}
 use Rattle.rw_terms.specs.OpEntries.{entries}
@@ -29,7 +29,7 @@ loop-place-preserved g c =
     record {
       gives = rw mapped (read_more_behind (spec.read_rule schema ops) c.args.items.now c.loop-place.place before c.index-items-place.result (rule_read rule)
           c.loop-place.invariant.gives c.loop-place-test.true c.index-items-place.is read);
-      known = rw c.in_ok-push-2.ensures.items (All-append IsKnown rules (rule ∷ []) c.loop-place.invariant.known (All-cons IsKnown rule [] c.in_ok-rule.ensures.known (All-nil IsKnown)));
+      known = rw c.in_ok-push-2.ensures.items (All-push IsKnown rules rule c.loop-place.invariant.known c.in_ok-rule.ensures.known);
       names = rw (mapped, c.in_ok-push.ensures.ok, c.loop-place.invariant.names, c.as_str.ensures, map-append (λ (read : spec.RuleRead). read.rule.name) before (rule_read rule ∷ []));
       long = rw (c.in_ok-push-2.ensures.items, length-append rules (rule ∷ []), c.loop-place.invariant.long);
     }

@@ -1,7 +1,7 @@
 -- The watch and its name are put behind those before it.
 use Rattle.std.proofs.Common.{◌≡◌, ◌∙◌, ◌+◌, ℕ, Ok, List, [], ◌∷◌, ◌++◌, length, map, length-append, append_assoc, arith}
 use Rattle.std.proofs.lemmas.List.{length-map, map-append}
-use Rattle.std.proofs.lemmas.List.Elements.{All-append, All-cons, All-nil}
+use Rattle.std.proofs.lemmas.List.Elements.{All-push}
 use Rattle.serde_json.specs.View.{view}
 use Rattle.rw_schema.specs.Presentation.{signature_of}
 use Rattle.rw_rule.specs.declared.watch.Watch as declared
@@ -28,7 +28,7 @@ loop-place-preserved c =
     record {
       gives = rw mapped (read_more_behind (spec.read_watch schema names) c.args.items.now c.loop-place.place before c.index-items-place.result (lists_of_watch watch)
           c.loop-place.invariant.gives c.loop-place-test.true c.index-items-place.is read);
-      known = rw c.in_ok-push-2.ensures.items (All-append IsKnown watches (watch ∷ []) c.loop-place.invariant.known (All-cons IsKnown watch [] c.in_ok-watch.ensures.known (All-nil IsKnown)));
+      known = rw c.in_ok-push-2.ensures.items (All-push IsKnown watches watch c.loop-place.invariant.known c.in_ok-watch.ensures.known);
       names = rw (
         mapped, c.in_ok-push.ensures.ok, c.loop-place.invariant.names, c.as_str.ensures, map-append (λ (watch : WatchLists). watch.name) before (lists_of_watch watch ∷ []),
         append_assoc,
