@@ -1,5 +1,5 @@
 -- The variables of a pattern, numbered by their first places.
-use Rattle.std.specs.Prelude.{ℕ, Bool, false, not, List, [], ◌∷◌, map, take, length, Option, Some, None, option_map, position, slice_get, unwrap_or, if◌then◌else◌}
+use Rattle.std.specs.Prelude.{ℕ, ◌-◌, ◌^◌, Bool, false, not, List, [], ◌∷◌, map, take, Option, Some, None, option_map, position, slice_get, unwrap_or, if◌then◌else◌}
 use Rattle.std.specs.List.{list_any}
 use Rattle.std.specs.Str.{bytes_eq}
 use Rattle.rw_schema.specs.declared.atom.Kind.{Kind}
@@ -53,6 +53,6 @@ kind_at attributes entry = unwrap_or (option_map (λ (attribute : AttrDef). attr
 abbrev pub kinds_of : List AttrDef → List Entry → List Kind
 kinds_of attributes entries = map (kind_at attributes) (firsts entries)
 
--- the number of the variable with this name; a name of none has the number after the last, which is no variable's
+-- the number of the variable with this name; a name of none has the greatest number of 32 bits, which is no variable's
 abbrev pub number_in : List (List ℕ) → List ℕ → ℕ
-number_in variables name = unwrap_or (position (bytes_eq name) variables) (length variables)
+number_in variables name = unwrap_or (position (bytes_eq name) variables) (2 ^ 32 - 1)

@@ -71,11 +71,11 @@ pub(crate) fn variables_of(
     Ok(Variables { names, kinds })
 }
 
-/// The number of the name, or the number after the last where it is that of no variable.
+/// The number of the name, or the greatest number where it is that of no variable.
 pub(crate) fn number_in(names: &Names, name: &str) -> u32
     requires { length names.now ≤ 256 }
     ensures { result ≡ spec.number_in names.now name.now }
 {
-    let number = names.number_of(name).unwrap_or(names.len());
+    let number = names.number_of(name).unwrap_or(u32::MAX as usize);
     number as u32
 }

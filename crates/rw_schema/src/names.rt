@@ -1,6 +1,6 @@
 //! Names in order, each once, that are found by hashing.
 
-ghost use Rattle.std.specs.Prelude.{◌≡◌, [], ◌∷◌, ◌++◌, false, OnOk, OnErr, length, position};
+ghost use Rattle.std.specs.Prelude.{◌≡◌, [], ◌∷◌, ◌++◌, false, OnOk, OnErr, position};
 ghost use Rattle.std.specs.List.{list_any};
 ghost use Rattle.std.specs.Str.{bytes_eq};
 
@@ -46,13 +46,6 @@ impl Names {
         ensures { result ≡ position (bytes_eq name.now) self.now }
     {
         self.index.get_index_of(name)
-    }
-
-    /// How many names there are.
-    pub fn len(&self) -> usize
-        ensures { result ≡ length self.now }
-    {
-        self.index.len()
     }
 
     /// Puts a name that is not there behind the others.
