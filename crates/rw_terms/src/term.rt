@@ -30,12 +30,26 @@ pub fn eval(
     requires evaluable { is_evaluable (codes_of (entries ops.now)) valuation.now term.now ≡ true }
     ensures { IfOk result (λ value. value ≡ value_of (codes_of (entries ops.now)) valuation.now term.now) }
 {
+    evaluate(alloc, term, valuation, ops)
+}
+
+/// The value of a term, from those of its operands.
+// Apart from `eval`: a crate above does not link a function that calls itself and takes closures, where it is re-exported.
+fn evaluate(
+    alloc: Global,
+    term: &Term,
+    valuation: &Valuation,
+    ops: &OpTable,
+) -> Result<Option<Atom>, OutOfMemory>
+    requires evaluable { is_evaluable (codes_of (entries ops.now)) valuation.now term.now ≡ true }
+    ensures { IfOk result (λ value. value ≡ value_of (codes_of (entries ops.now)) valuation.now term.now) }
+{
     match term {
         Term::Const(atom) => Ok(Some(atom.copy(alloc)?)),
         Term::Var(variable) => Ok(Some(value_at(alloc, valuation, *variable)?)),
         Term::Op(op, first, second) => {
-            let first = eval(alloc, first.get(), valuation, ops)?;
-            let second = eval(alloc, second.get(), valuation, ops)?;
+            let first = evaluate(alloc, first.get(), valuation, ops)?;
+            let second = evaluate(alloc, second.get(), valuation, ops)?;
             Ok(applied(ops, *op, first, second))
         }
     }

@@ -2,7 +2,7 @@
 use Rattle.rw_terms.specs.OpEntries.{entries}
 use Rattle.rw_terms.specs.OpTables.{codes_of}
 use Rattle.rw_terms.proofs.Evaluable.{variable_within}
-use Rattle.rw_terms.proofs.term.+eval.Goals as goal
+use Rattle.rw_terms.proofs.term.+evaluate.Goals as goal
 
 pub value_at-requires : goal.value_at-requires
 value_at-requires g t c =
