@@ -8,9 +8,9 @@ use Rattle.rw_doc.specs.declared.fault.DocFault.{DocFault}
 use Rattle.rw_doc.specs.Chain.{and_then, checked, some_or}
 use Rattle.rw_docpattern.specs.declared.entry.Entry.{Entry}
 use Rattle.rw_docpattern.specs.declared.piece.Piece.{Piece}
-use Rattle.rw_docpattern.specs.Drafts.{Draft, draft_of, read_draft}
-use Rattle.rw_docpattern.specs.Forms.{PatternForm, bare_keys, form_with}
-use Rattle.rw_docpattern.specs.Patterns.{bare_lists, read_bare_pattern, read_entries, read_form}
+use Rattle.rw_docpattern.specs.Drafts.{Draft, draft_of, pattern_with, read_draft}
+use Rattle.rw_docpattern.specs.Forms.{PatternForm, bare_keys, form_with, pattern_keys}
+use Rattle.rw_docpattern.specs.Patterns.{bare_lists, read_bare_pattern, read_entries, read_form, read_pattern}
 use Rattle.rw_docpattern.specs.Pieces.{fault_in}
 
 -- what comes behind a reading of entries
@@ -46,3 +46,8 @@ by_draft schema piece keys value next = behind_form schema piece (form_with keys
 pub bare_by_draft : (schema : Presentation) (piece : Piece) (value : Data)
     → read_bare_pattern schema piece value ≡ and_then (read_draft schema piece bare_keys value) (λ (draft : Draft). Ok draft.bare)
 bare_by_draft schema piece value = by_draft schema piece bare_keys value (λ bare entries. Ok bare)
+
+-- a pattern with entries is made of its draft
+pub pattern_by_draft : (schema : Presentation) (piece : Piece) (value : Data)
+    → read_pattern schema piece value ≡ and_then (read_draft schema piece pattern_keys value) (λ (draft : Draft). pattern_with schema piece draft.bare draft.entries)
+pattern_by_draft schema piece value = by_draft schema piece pattern_keys value (pattern_with schema piece)

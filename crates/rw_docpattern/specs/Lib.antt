@@ -6,6 +6,7 @@ pub mod Numbering
 pub mod Numbers
 pub mod Objects
 pub mod Operations
+pub mod Parts
 pub mod Patterns
 pub mod Pieces
 pub mod Reads

@@ -2,6 +2,7 @@
 #![tactic(auto)]
 
 mod bare;
+mod build;
 mod checks;
 mod draft;
 mod entry;
