@@ -9,6 +9,7 @@ mod entry;
 mod forms;
 mod maps;
 mod named;
+mod numbered;
 mod numbers;
 mod operation;
 mod objects;
