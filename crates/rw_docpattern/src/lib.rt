@@ -6,6 +6,7 @@ mod build;
 mod checks;
 mod draft;
 mod entry;
+mod fits;
 mod forms;
 mod maps;
 mod named;
