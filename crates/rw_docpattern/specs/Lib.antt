@@ -10,6 +10,7 @@ pub mod Parts
 pub mod Patterns
 pub mod Pieces
 pub mod Reads
+pub mod Rights
 pub mod Sets
 pub mod Terms
 pub mod Variables
