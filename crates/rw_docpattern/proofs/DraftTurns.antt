@@ -2,16 +2,19 @@
 use Rattle.std.proofs.Common.{◌≡◌, ℕ, Bool, true, false, Option, Some, None, Result, Ok, Err, List, refl}
 use Rattle.serde_json.specs.Data.{Data}
 use Rattle.rw_schema.specs.Presentation.{Presentation, signature_of}
+use Rattle.rw_terms.specs.OpTables.{OpEntry}
 use Rattle.rw_pattern.specs.PatternFaults.{has_shape}
 use Rattle.rw_pattern.specs.PatternLists.{PatternLists}
 use Rattle.rw_doc.specs.declared.fault.DocFault.{DocFault}
 use Rattle.rw_doc.specs.Chain.{and_then, checked, some_or}
 use Rattle.rw_docpattern.specs.declared.entry.Entry.{Entry}
 use Rattle.rw_docpattern.specs.declared.piece.Piece.{Piece}
-use Rattle.rw_docpattern.specs.Drafts.{Draft, draft_of, read_draft}
-use Rattle.rw_docpattern.specs.Forms.{PatternForm, bare_keys, form_with}
-use Rattle.rw_docpattern.specs.Patterns.{bare_lists, read_bare_pattern, read_entries, read_form}
+use Rattle.rw_docpattern.specs.Drafts.{Draft, draft_of, pattern_with, read_draft}
+use Rattle.rw_docpattern.specs.Forms.{PatternForm, bare_keys, form_with, pattern_keys}
+use Rattle.rw_docpattern.specs.Patterns.{PatternRead, bare_lists, read_bare_pattern, read_entries, read_form, read_pattern}
 use Rattle.rw_docpattern.specs.Pieces.{fault_in}
+use Rattle.rw_docpattern.specs.Rights.{right_with}
+use Rattle.rw_docpattern.specs.Sets.{read_right}
 
 -- what comes behind a reading of entries
 behind : {B : Type 0} (bare : PatternLists) (read : Result (List Entry) DocFault) (next : PatternLists → List Entry → Result B DocFault)
@@ -46,3 +49,13 @@ by_draft schema piece keys value next = behind_form schema piece (form_with keys
 pub bare_by_draft : (schema : Presentation) (piece : Piece) (value : Data)
     → read_bare_pattern schema piece value ≡ and_then (read_draft schema piece bare_keys value) (λ (draft : Draft). Ok draft.bare)
 bare_by_draft schema piece value = by_draft schema piece bare_keys value (λ bare entries. Ok bare)
+
+-- a pattern with entries is made of its draft
+pub pattern_by_draft : (schema : Presentation) (piece : Piece) (value : Data)
+    → read_pattern schema piece value ≡ and_then (read_draft schema piece pattern_keys value) (λ (draft : Draft). pattern_with schema piece draft.bare draft.entries)
+pattern_by_draft schema piece value = by_draft schema piece pattern_keys value (pattern_with schema piece)
+
+-- a right pattern is made of its draft
+pub right_by_draft : (schema : Presentation) (ops : List OpEntry) (piece : Piece) (left : PatternRead) (value : Data)
+    → read_right schema ops piece left value ≡ and_then (read_draft schema piece pattern_keys value) (λ (draft : Draft). right_with schema ops piece left draft.bare draft.entries)
+right_by_draft schema ops piece left value = by_draft schema piece pattern_keys value (right_with schema ops piece left)

@@ -6,3 +6,4 @@ pub mod DraftSteps
 pub mod Checked
 pub mod SoundDrafts
 pub mod DraftTurns
+pub mod SoundCells

@@ -9,7 +9,7 @@ use Rattle.rw_schema.specs.First.{all_in}
 use Rattle.rw_schema.specs.declared.atom.Kind.TheVariants as kinds
 use Rattle.rw_schema.specs.declared.parts.AttrDef.{AttrDef}
 use Rattle.rw_schema.specs.Presentation.{Presentation, signature_of}
-use Rattle.rw_pattern.specs.PatternFaults.{are_in_range, equation_fault, has_few_parts, has_shape, is_in_range, IsPatternOver}
+use Rattle.rw_pattern.specs.PatternFaults.{are_in_range, equation_fault, has_few_parts, has_shape, is_in_range}
 use Rattle.rw_pattern.specs.PatternLists.{PatternLists}
 use Rattle.rw_doc.specs.declared.fault.DocFault.{DocFault}
 use Rattle.rw_doc.specs.Chain.{all_some, some_or}
@@ -17,22 +17,13 @@ use Rattle.rw_doc.proofs.Chains.{chain, checked_then, there}
 use Rattle.rw_docpattern.specs.declared.entry.Entry.{Entry}
 use Rattle.rw_docpattern.specs.declared.entry.WrittenEntry.{WrittenEntry}
 use Rattle.rw_docpattern.specs.declared.piece.Piece.{Piece}
-use Rattle.rw_docpattern.specs.Drafts.{Draft, draft_of, read_draft}
+use Rattle.rw_docpattern.specs.Drafts.{Draft, IsSound, draft_of, read_draft}
 use Rattle.rw_docpattern.specs.Forms.{PatternForm, form_with}
 use Rattle.rw_docpattern.specs.Patterns.{are_parts_there, bare_lists, entries_named, entry_named, fits_atom, is_form_within, is_on_part, read_entries}
 use Rattle.rw_docpattern.specs.Pieces.{fault_in}
 use Rattle.rw_docpattern.specs.Terms.{is_within_limits}
 use Rattle.rw_docpattern.proofs.Checked.{none_is, passed}
 use Rattle.rw_docpattern.proofs.Listed.{some_all, some_long}
-
--- the bare pattern is one over the schema, and its entries are few, stand on its parts, and have atoms that fit
-pub record IsSound (schema : Presentation) (draft : Draft) : Type 0 where
-  pub over : IsPatternOver (signature_of schema) [] draft.bare
-  pub free : draft.bare.cells ≡ []
-  pub attributes : All (λ (entry : Entry). entry.attr.0 < length schema.attributes) draft.entries
-  pub few : length draft.entries ≤ 256
-  pub parts : list_all (is_on_part draft.bare) draft.entries ≡ true
-  pub atoms : list_all (fits_atom (signature_of schema)) draft.entries ≡ true
 
 -- a number that a name has is one of an attribute
 named_within : (attributes : List AttrDef) (written : WrittenEntry) (entry : Entry) → entry_named attributes written ≡ Some entry → entry.attr.0 < length attributes

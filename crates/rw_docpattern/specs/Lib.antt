@@ -6,9 +6,11 @@ pub mod Numbering
 pub mod Numbers
 pub mod Objects
 pub mod Operations
+pub mod Parts
 pub mod Patterns
 pub mod Pieces
 pub mod Reads
+pub mod Rights
 pub mod Sets
 pub mod Terms
 pub mod Variables

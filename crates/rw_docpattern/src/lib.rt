@@ -2,12 +2,15 @@
 #![tactic(auto)]
 
 mod bare;
+mod build;
 mod checks;
 mod draft;
 mod entry;
+mod fits;
 mod forms;
 mod maps;
 mod named;
+mod numbered;
 mod numbers;
 mod operation;
 mod objects;

@@ -9,6 +9,7 @@ ghost use Rattle.rw_docpattern.specs.Patterns as spec;
 ghost use Rattle.rw_docpattern.specs.Reads.{pattern_read};
 
 use crate::Piece;
+use crate::build::with_entries;
 use crate::draft::read_draft;
 use rw_doc::ReadDocEnd;
 use rw_pattern::Pattern;
@@ -50,5 +51,6 @@ pub fn read_pattern(
     ensures over { IfOk result (λ read. IsPatternOver (signature_of schema.now) read.kinds.items read.pattern) }
     ensures few { IfOk result (λ read. length read.variables ≤ 256) }
 {
-    Err(ReadDocEnd::OutOfMemory)
+    let draft = read_draft(alloc, schema, piece, &["cells", "parts", "rows"], value)?;
+    with_entries(alloc, schema, piece, draft)
 }

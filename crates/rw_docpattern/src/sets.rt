@@ -6,9 +6,14 @@ ghost use Rattle.rw_schema.specs.Presentation.{signature_of};
 ghost use Rattle.rw_pattern.specs.PatternFaults.{IsPatternOver};
 ghost use Rattle.rw_terms.specs.OpEntries.{entries};
 ghost use Rattle.rw_doc.specs.Gives.{Gives};
+ghost use Rattle.rw_docpattern.specs.Drafts.{IsSound, draft_seen};
+ghost use Rattle.rw_docpattern.specs.Rights.{right_with};
 ghost use Rattle.rw_docpattern.specs.Sets as spec;
 ghost use Rattle.rw_docpattern.specs.Reads.{pattern_read, right_read};
 
+use crate::draft::{Draft, read_draft};
+use crate::fits::are_sets;
+use crate::numbered::sets_of;
 use crate::{PatternRead, Piece};
 use rw_doc::ReadDocEnd;
 use rw_pattern::Pattern;
@@ -23,6 +28,36 @@ use std::alloc::Global;
 pub struct RightRead {
     pub pattern: Pattern,
     pub sets: Vec<SetCell>,
+}
+
+/// The pattern of the draft, and its entries as sets.
+fn with_sets(
+    alloc: Global,
+    schema: &Schema,
+    ops: &OpTable,
+    piece: Piece,
+    left: &PatternRead,
+    draft: Draft,
+) -> Result<RightRead, ReadDocEnd>
+    requires operations { length (entries ops.now) < 2 ^ 32 }
+    requires variables { length left.now.variables ≤ 256 }
+    requires sound { IsSound schema.now (draft_seen draft) }
+    ensures gives { Gives right_read result
+        (right_with schema.now (entries ops.now) piece (pattern_read left.now) draft.bare draft.entries.items) }
+    ensures over { IfOk result (λ read. IsPatternOver (signature_of schema.now) [] read.pattern) }
+    ensures free { IfOk result (λ read. read.pattern.cells ≡ []) }
+    ensures attributes { IfOk result (λ read. All (λ set. set.attr.0 < length schema.now.attributes) read.sets.items) }
+    ensures few { IfOk result (λ read. length read.sets.items ≤ 256) }
+{
+    let Draft { bare, entries } = draft;
+    let sets = sets_of(alloc, ops, &left.variables, entries)?;
+    if !are_sets(schema, ops, left, sets.as_slice()) {
+        return Err(piece.refused(14));
+    }
+    Ok(RightRead {
+        pattern: bare,
+        sets,
+    })
 }
 
 /// The right pattern of a rule with this left pattern. Its terms have the left pattern's variables, and operations of the
@@ -43,5 +78,6 @@ pub fn read_right(
     ensures attributes { IfOk result (λ read. All (λ set. set.attr.0 < length schema.now.attributes) read.sets.items) }
     ensures few { IfOk result (λ read. length read.sets.items ≤ 256) }
 {
-    Err(ReadDocEnd::OutOfMemory)
+    let draft = read_draft(alloc, schema, piece, &["cells", "parts", "rows"], value)?;
+    with_sets(alloc, schema, ops, piece, left, draft)
 }

@@ -1,10 +1,10 @@
 -- The pattern is that of the draft.
 use Rattle.std.proofs.Common.{rules}
 use Rattle.serde_json.specs.View.{view}
-use Rattle.rw_docpattern.specs.Drafts.{draft_seen}
+use Rattle.rw_docpattern.specs.Drafts.{IsSound, draft_seen}
 use Rattle.rw_docpattern.specs.Forms.{bare_keys}
 use Rattle.rw_docpattern.proofs.DraftTurns.{bare_by_draft}
-use Rattle.rw_docpattern.proofs.SoundDrafts.{IsSound, draft_sound}
+use Rattle.rw_docpattern.proofs.SoundDrafts.{draft_sound}
 use Rattle.rw_docpattern.proofs.patterns.read_bare_pattern.Goals as goal
 
 pub returns-in_err-draft-clause-gives : goal.returns-in_err-draft-clause-gives
