@@ -5,3 +5,4 @@ mod Marks
 mod ReadMaps
 mod RightSets
 mod SoundRules
+mod SoundTable

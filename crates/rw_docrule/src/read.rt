@@ -16,10 +16,13 @@ ghost use Rattle.rw_docrule.specs.Documents as spec;
 ghost use Rattle.rw_docrule.specs.Models.{IsSound, document_lists};
 
 use crate::Document;
+use crate::build::{build_rules, not_built};
+use crate::rules::read_rules;
+use crate::watches::read_watches;
 use rw_doc::{
-    DocFault, ReadDocEnd, count_of, empty_instance, has_only, read_instance, read_schema,
+    ReadDocEnd, count_of, empty_instance, has_only, read_instance, read_schema, refused_of,
 };
-use rw_schema::{Schema, Section};
+use rw_schema::{Names, Schema, Section};
 use rw_table::Table;
 use rw_terms::OpTable;
 use serde_json::Value;
@@ -47,13 +50,7 @@ const OTHER_FORMAT: u8 = 3;
 fn refused(code: u8) -> ReadDocEnd
     ensures { result ≡ Refused (fault_of code Whole) }
 {
-    ReadDocEnd::Refused(DocFault {
-        code,
-        section: Section::Whole,
-        first: 0,
-        second: 0,
-        third: 0,
-    })
+    refused_of(code, Section::Whole)
 }
 
 /// The member of the document at a key.
@@ -94,6 +91,51 @@ fn has_more(value: &Value) -> bool
     ensures { result ≡ spec.has_more (view value.now) }
 {
     value.get("schedule").is_some() || value.get("span").is_some() || value.get("cospan").is_some()
+}
+
+/// The document of the schema, the instance, and the rules and watches that are written.
+fn read_others(
+    alloc: Global,
+    ops: &OpTable,
+    schema: Schema,
+    table: Table,
+    value: &Value,
+) -> Result<Document, ReadDocEnd>
+    requires over { IsOver schema table }
+    requires few { length (entries ops.now) < 2 ^ 32 }
+    ensures gives { Gives document_lists result (spec.read_others (entries ops.now) schema table (view value.now)) }
+    ensures sound { IfOk result (λ document. IsSound (length (entries ops.now)) (document_lists document)) }
+{
+    let mut names = Names::new(alloc);
+    let rules = read_rules(alloc, &schema, ops, &mut names, value.get("rules"))?;
+    let watches = read_watches(alloc, &schema, &mut names, value.get("watches"))?;
+    if has_more(value) {
+        return Err(not_built());
+    }
+    let rules = build_rules(alloc, &schema, ops, rules)?;
+    Ok(Document {
+        schema,
+        table,
+        rules,
+        watches,
+    })
+}
+
+/// The document that a JSON value is.
+fn read_value(alloc: Global, ops: &OpTable, value: &Value) -> Result<Document, ReadDocEnd>
+    requires { length (entries ops.now) < 2 ^ 32 }
+    ensures gives { Gives document_lists result (spec.read_value (entries ops.now) (view value.now)) }
+    ensures sound { IfOk result (λ document. IsSound (length (entries ops.now)) (document_lists document)) }
+{
+    if !has_only(&KEYS, value) {
+        return Err(refused(NOT_FORM));
+    }
+    let schema = member("schema", value)?;
+    let format = member("format", value)?;
+    read_format(format)?;
+    let schema = read_schema(alloc, schema)?;
+    let table = instance_or_none(alloc, &schema, value.get("instance"))?;
+    read_others(alloc, ops, schema, table, value)
 }
 
 /// The JSON value that a text is.
@@ -139,5 +181,6 @@ pub fn read_document(
     ensures gives { Gives document_lists result (spec.read_document (entries ops.now) bytes.now) }
     ensures sound { IfOk result (λ document. IsSound (length (entries ops.now)) (document_lists document)) }
 {
-    Err(ReadDocEnd::OutOfMemory)
+    let value = read_json(alloc, bytes)?;
+    read_value(alloc, ops, &value)
 }
