@@ -84,14 +84,7 @@ fn run_with_operations<S: Source, K: Sink>(
         let name = Text::of(alloc, name)?;
         ops.add(alloc, Op::new(name, code, run))?;
     }
-    Ok(run::<_, _, Brand>(
-        alloc,
-        words,
-        source,
-        sink,
-        &ops,
-        Blank::new(1),
-    ))
+    Ok(run::<_, _, Brand>(alloc, words, source, sink, &ops, Blank::new(1)))
 }
 
 /// Does what the words ask for. Nobody reads the steps.

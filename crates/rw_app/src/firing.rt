@@ -46,7 +46,14 @@ pub(crate) fn fire(
     ensures { IfOk result (λ fired. (firing : Firing) × IsFiring (codes_of (entries ops.now)) (document_lists document.now) rule.now world.table.rows fired firing) }
 {
     let found = world.lists[0].as_slice();
-    let Pick { refused, applied } = pick_first(alloc, &document.schema, rule, &world.table, found, ops)?;
+    let Pick { refused, applied } = pick_first(
+        alloc,
+        &document.schema,
+        rule,
+        &world.table,
+        found,
+        ops,
+    )?;
     match applied {
         Some(applied) => step(alloc, document, rule, world, applied, refused, ops),
         None => stay(alloc, document, rule, world, refused, ops),

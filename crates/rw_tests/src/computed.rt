@@ -4,25 +4,29 @@ use crate::tests::check;
 use std::test::Fail;
 
 /// A counter at its greatest value, and a rule that adds one.
-const GREATEST: &str = r#"{"format":1,"schema":{"objects":["V"],"arrows":[],"attributes":[["w","V","int"]]},
+const GREATEST: &str =
+    r#"{"format":1,"schema":{"objects":["V"],"arrows":[],"attributes":[["w","V","int"]]},
 "instance":{"parts":[1],"rows":[],"cells":[[9223372036854775807]]},
 "rules":[{"name":"inc","kind":"dpo","left":{"parts":[1],"rows":[],"cells":[["w",0,{"var":"x"}]]},"keep":{"parts":[1],"rows":[]},
 "right":{"parts":[1],"rows":[],"cells":[["w",0,{"op":"add","args":[{"var":"x"},1]}]]},"l":[[0]],"r":[[0]]}]}"#;
 
 /// Two counters, and a rule that adds one.
-const COUNTERS: &str = r#"{"format":1,"schema":{"objects":["V"],"arrows":[],"attributes":[["w","V","int"]]},
+const COUNTERS: &str =
+    r#"{"format":1,"schema":{"objects":["V"],"arrows":[],"attributes":[["w","V","int"]]},
 "instance":{"parts":[2],"rows":[],"cells":[[1,2]]},
 "rules":[{"name":"inc","kind":"dpo","left":{"parts":[1],"rows":[],"cells":[["w",0,{"var":"x"}]]},"keep":{"parts":[1],"rows":[]},
 "right":{"parts":[1],"rows":[],"cells":[["w",0,{"op":"add","args":[{"var":"x"},1]}]]},"l":[[0]],"r":[[0]]}]}"#;
 
 /// A number, and a rule that divides it by zero.
-const DIVIDED: &str = r#"{"format":1,"schema":{"objects":["V"],"arrows":[],"attributes":[["w","V","int"]]},
+const DIVIDED: &str =
+    r#"{"format":1,"schema":{"objects":["V"],"arrows":[],"attributes":[["w","V","int"]]},
 "instance":{"parts":[1],"rows":[],"cells":[[5]]},
 "rules":[{"name":"inc","kind":"dpo","left":{"parts":[1],"rows":[],"cells":[["w",0,{"var":"x"}]]},"keep":{"parts":[1],"rows":[]},
 "right":{"parts":[1],"rows":[],"cells":[["w",0,{"op":"div","args":[{"var":"x"},0]}]]},"l":[[0]],"r":[[0]]}]}"#;
 
 /// Two elements, a rule that swaps their numbers and keeps their texts, and the elements with the number 5 and the text b.
-const SWAPPED: &str = r#"{"format":1,"schema":{"objects":["V"],"arrows":[],"attributes":[["w","V","int"],["t","V","text"]]},
+const SWAPPED: &str =
+    r#"{"format":1,"schema":{"objects":["V"],"arrows":[],"attributes":[["w","V","int"],["t","V","text"]]},
 "instance":{"parts":[2],"rows":[],"cells":[[1,5],["a","b"]]},
 "rules":[{"name":"swap","kind":"dpo","monic":["V"],"left":{"parts":[2],"rows":[],"cells":[["w",0,{"var":"x"}],["w",1,{"var":"y"}]]},
 "keep":{"parts":[2],"rows":[]},"right":{"parts":[2],"rows":[],"cells":[["w",0,{"var":"y"}],["w",1,{"var":"x"}]]},
@@ -31,7 +35,8 @@ const SWAPPED: &str = r#"{"format":1,"schema":{"objects":["V"],"arrows":[],"attr
 {"name":"b","pattern":{"parts":[1],"rows":[],"cells":[["t",0,"b"]]}}]}"#;
 
 /// A rule with two sets without a value: the one on the lesser part is named, though it stands last.
-const VALUELESS: &str = r#"{"format":1,"schema":{"objects":["V"],"arrows":[],"attributes":[["w","V","int"],["u","V","int"]]},
+const VALUELESS: &str =
+    r#"{"format":1,"schema":{"objects":["V"],"arrows":[],"attributes":[["w","V","int"],["u","V","int"]]},
 "instance":{"parts":[2],"rows":[],"cells":[[1,2],[3,4]]},
 "rules":[{"name":"none","kind":"dpo","monic":["V"],"left":{"parts":[2],"rows":[],"cells":[["w",0,1],["u",1,4]]},"keep":{"parts":[2],"rows":[]},
 "right":{"parts":[2],"rows":[],"cells":[["w",1,{"op":"rem","args":[1,0]}],["u",0,{"op":"mul","args":[9223372036854775807,2]}],["w",0,7]]},

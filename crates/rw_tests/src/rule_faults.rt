@@ -5,7 +5,8 @@ use crate::tests::check;
 use std::test::Fail;
 
 /// The start of a document up to its rules and watches: vertices with a partner each, a number and a text, and edges.
-const START: &str = r#"{"format":1,"schema":{"objects":["V","E"],"arrows":[["src","E","V"],["inv","V","V"]],"attributes":[["w","V","int"],["t","V","text"]],"equations":[["V",["inv","inv"],[]]]},"#;
+const START: &str =
+    r#"{"format":1,"schema":{"objects":["V","E"],"arrows":[["src","E","V"],["inv","V","V"]],"attributes":[["w","V","int"],["t","V","text"]],"equations":[["V",["inv","inv"],[]]]},"#;
 
 /// Lists of rules, and the line of the document with each.
 const RULES: &str = r#"
@@ -107,7 +108,8 @@ fn faults_of_heads(rt: HostRuntime) -> Result<(), Fail> {
     let rules = format!(in alloc; "{START}\"rules\":")?;
     assert!(rt; check_cases(&rt, alloc, rules.as_str(), RULES, "}")? == 3);
     let before = format!(in alloc; "{START}\"rules\":[{{")?;
-    let after = r#","left":{"parts":[0,0],"rows":[[],[]]},"keep":{"parts":[0,0],"rows":[[],[]]},"right":{"parts":[0,0],"rows":[[],[]]},"l":[[],[]],"r":[[],[]]}]}"#;
+    let after =
+        r#","left":{"parts":[0,0],"rows":[[],[]]},"keep":{"parts":[0,0],"rows":[[],[]]},"right":{"parts":[0,0],"rows":[[],[]]},"l":[[],[]],"r":[[],[]]}]}"#;
     assert!(rt; check_cases(&rt, alloc, before.as_str(), HEADS, after)? == 12);
     Ok(())
 }
@@ -118,10 +120,22 @@ fn faults_of_sides(rt: HostRuntime) -> Result<(), Fail> {
     let left = format!(in alloc; "{START}\"rules\":[{{\"name\":\"r\",\"kind\":\"dpo\",\"left\":")?;
     let others = r#","keep":0,"right":0,"l":0,"r":0}]}"#;
     assert!(rt; check_cases(&rt, alloc, left.as_str(), LEFTS, others)? == 17);
-    let known = r#"{"parts":[1,0],"rows":[[],[0]],"cells":[["w",0,{"var":"x"}],["t",0,{"var":"y"}]]}"#;
+    let known =
+        r#"{"parts":[1,0],"rows":[[],[0]],"cells":[["w",0,{"var":"x"}],["t",0,{"var":"y"}]]}"#;
     let keep = format!(in alloc; "{}{known},\"keep\":", left.as_str())?;
-    assert!(rt; check_cases(&rt, alloc, keep.as_str(), KEEPS, r#","right":0,"l":0,"r":0}]}"#)? == 3);
-    let right = format!(in alloc; "{}{{\"parts\":[1,0],\"rows\":[[],[0]]}},\"right\":", keep.as_str())?;
+    assert!(rt;
+        check_cases(
+            &rt,
+            alloc,
+            keep.as_str(),
+            KEEPS,
+            r#","right":0,"l":0,"r":0}]}"#
+        )? == 3
+    );
+    let right = format!(in alloc;
+        "{}{{\"parts\":[1,0],\"rows\":[[],[0]]}},\"right\":",
+        keep.as_str()
+    )?;
     assert!(rt; check_cases(&rt, alloc, right.as_str(), RIGHTS, r#","l":0,"r":0}]}"#)? == 12);
     Ok(())
 }
@@ -164,7 +178,9 @@ fn limits_of_terms(rt: HostRuntime) -> Result<(), Fail> {
     for _level in 0..32u32 {
         term.push_str(",1]}")?;
     }
-    let before = format!(in alloc; "{START}\"watches\":[{{\"name\":\"x\",\"pattern\":{{\"parts\":[1,0],\"rows\":[[],[0]],\"cells\":[[\"w\",0,")?;
+    let before = format!(in alloc;
+        "{START}\"watches\":[{{\"name\":\"x\",\"pattern\":{{\"parts\":[1,0],\"rows\":[[],[0]],\"cells\":[[\"w\",0,"
+    )?;
     let deep = format!(in alloc; "{}{}]]}}}}]}}", before.as_str(), term.as_str())?;
     let line = "{\"at\":[0,1,0],\"fault\":4,\"section\":\"watches\"}\n";
     check(&rt, alloc, &["check"], deep.as_bytes(), 3, line)

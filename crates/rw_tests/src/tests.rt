@@ -66,14 +66,7 @@ fn finish<S: Source, K: Sink>(
         let name = Text::of(alloc, name)?;
         ops.add(alloc, Op::new(name, code, run))?;
     }
-    Ok(run::<S, K, Brand>(
-        alloc,
-        words,
-        source,
-        sink,
-        &ops,
-        Blank::new(1),
-    ))
+    Ok(run::<S, K, Brand>(alloc, words, source, sink, &ops, Blank::new(1)))
 }
 
 fn owned(alloc: Global, words: &[&str]) -> Result<Vec<String>, Fail> {
