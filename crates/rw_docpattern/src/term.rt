@@ -46,9 +46,7 @@ impl WrittenTerm {
         match self {
             WrittenTerm::Const(_) | WrittenTerm::Var(_) => 1 <= most,
             WrittenTerm::Op(_, first, second) => {
-                1 <= most
-                    && first.get().has_at_most(most - 1)
-                    && second.get().has_at_most(most - 1)
+                1 <= most && first.get().has_at_most(most - 1) && second.get().has_at_most(most - 1)
             }
         }
     }
