@@ -10,13 +10,11 @@ ghost use Rattle.rw_docpattern.specs.Reads.{pattern_read};
 ghost use Rattle.rw_docpattern.specs.Sets as spec;
 
 use crate::PatternRead;
+use crate::term::MOST_LEVELS;
 use rw_pattern::{Pattern, Want};
 use rw_rule::SetCell;
 use rw_schema::{AttrDef, AttrId, Kind, Schema};
 use rw_terms::{OpTable, Term};
-
-/// The greatest number of levels of a term.
-const MOST_LEVELS: usize = 32;
 
 /// Whether the variable is wanted.
 fn wants(variable: u32, want: &Want) -> bool

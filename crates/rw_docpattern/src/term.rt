@@ -8,7 +8,7 @@ use rw_schema::{Atom, Text};
 use sqlite_items::Boxed;
 
 /// The greatest number of levels of a term.
-const MOST_LEVELS: usize = 32;
+pub(crate) const MOST_LEVELS: usize = 32;
 
 /// A term as a document has it: a constant, a variable by its name, or an operation by its name, on two terms.
 #[derive(Drop)]
