@@ -1,8 +1,8 @@
 -- The checks of a draft, one after the other.
-use Rattle.std.proofs.Common.{◌≡◌, ◌∙◌, ℕ, Bool, true, false, ◌&&◌, nat_le, is_none, length, List, [], Option, Some, None, Result, Ok, Err, if◌then◌else◌, refl, sym, ap}
+use Rattle.std.proofs.Common.{◌≡◌, ℕ, Bool, true, false, ◌&&◌, nat_le, is_none, length, List, [], Option, Some, None, Result, Ok, if◌then◌else◌, refl}
 use Rattle.std.specs.List.{list_all}
 use Rattle.rw_schema.specs.Presentation.{Presentation, signature_of}
-use Rattle.rw_pattern.specs.PatternFaults.{are_in_range, equation_fault, has_few_parts}
+use Rattle.rw_pattern.specs.PatternFaults.{are_in_range, equation_fault}
 use Rattle.rw_pattern.specs.PatternLists.{PatternLists}
 use Rattle.rw_doc.specs.declared.fault.DocFault.{DocFault}
 use Rattle.rw_doc.specs.Chain.{and_then, checked, some_or}
@@ -12,7 +12,6 @@ use Rattle.rw_docpattern.specs.declared.entry.WrittenEntry.{WrittenEntry}
 use Rattle.rw_docpattern.specs.declared.piece.Piece.{Piece}
 use Rattle.rw_docpattern.specs.Bare.{IsBare, lists_of}
 use Rattle.rw_docpattern.specs.Drafts.{Draft, draft_of, entries_of}
-use Rattle.rw_docpattern.specs.Forms.{PatternForm}
 use Rattle.rw_docpattern.specs.Patterns.{entries_named, fits_atom, is_on_part}
 use Rattle.rw_docpattern.specs.Pieces.{fault_in}
 use Rattle.rw_docpattern.specs.Terms.{is_within_limits}

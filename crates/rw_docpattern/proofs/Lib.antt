@@ -1,9 +1,9 @@
-pub mod Listed
-pub mod TermLevels
-pub mod FirstPlaces
 pub mod BareFaults
-pub mod DraftSteps
 pub mod Checked
-pub mod SoundDrafts
+pub mod DraftSteps
 pub mod DraftTurns
+pub mod FirstPlaces
+pub mod Listed
 pub mod SoundCells
+pub mod SoundDrafts
+pub mod TermLevels

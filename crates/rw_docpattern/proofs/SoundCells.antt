@@ -1,5 +1,5 @@
 -- The pattern of a draft with its entries has no fault but that of a variable.
-use Rattle.std.proofs.Common.{◌≡◌, ◌∙◌, ◌+◌, ◌<◌, ◌≤◌, ℕ, Bool, true, false, is_none, ◌&&◌, nat_le, nat_lt, Option, Some, None, option_map, Ok, List, [], ◌∷◌, length, slice_get, refl, ap, sym, subst, arith}
+use Rattle.std.proofs.Common.{◌≡◌, ◌∙◌, ◌+◌, ◌<◌, ◌≤◌, ℕ, Bool, true, false, is_none, Option, Some, None, option_map, Ok, List, [], ◌∷◌, length, slice_get, refl, ap, sym, subst, arith}
 use Rattle.std.specs.List.{All, list_all}
 use Rattle.std.proofs.lemmas.Bool.{and_parts, le-leb}
 use Rattle.rw_schema.specs.declared.atom.Kind.{Kind}
@@ -12,7 +12,7 @@ use Rattle.rw_pattern.specs.declared.cell.Want.{Want}
 use Rattle.rw_pattern.specs.declared.cell.Want.TheVariants as wants
 use Rattle.rw_pattern.specs.declared.fault.PatternFault.TheVariants as faults
 use Rattle.rw_pattern.specs.PatternFaults.{are_in_range, constant_fault, equation_fault, fits_constant, has_few_parts, has_part, has_shape, is_in_range, pattern_fault, variable_fault}
-use Rattle.rw_pattern.specs.PatternLists.{PatternLists, holder, size_of}
+use Rattle.rw_pattern.specs.PatternLists.{PatternLists}
 use Rattle.rw_doc.specs.Chain.{all_some, and_then, checked}
 use Rattle.rw_docpattern.specs.declared.entry.Entry.{Entry}
 use Rattle.rw_docpattern.specs.declared.term.WrittenTerm.{WrittenTerm, WrittenTerm-F, fold-WrittenTerm, fold-roll-WrittenTerm, ind-WrittenTerm, roll-WrittenTerm}
@@ -116,7 +116,7 @@ only_variables schema draft kinds names cells sound are =
     let range : are_in_range C pattern ≡ true = rw (images.0, parts) refl in
     let fits : PatternCell → Bool = λ cell. fits_constant (slice_get C.attributes cell.attr.0) cell.want in
     let constants : constant_fault C pattern ≡ None = unless_all fits (λ place. faults.Kind place) 0 cells
-        (some_pass fits (cell_of names) (fits_atom C) (constant_fits C names) draft.entries cells sound.atoms are) in
+    (some_pass fits (cell_of names) (fits_atom C) (constant_fits C names) draft.entries cells sound.atoms are) in
     let shape : has_shape C pattern ≡ true = sound.over.shape in
     let few : has_few_parts pattern ≡ true = sound.over.few in
     let equations : equation_fault C pattern ≡ None = sound.over.equations in

@@ -1,18 +1,16 @@
 -- What holds of a draft that is read.
-use Rattle.std.proofs.Common.{◌≡◌, ◌∙◌, ◌<◌, ◌≤◌, ℕ, Bool, true, ◌&&◌, nat_le, is_none, Option, Some, None, option_map, Result, Ok, List, [], length, position, refl, ap, sym, subst, arith}
+use Rattle.std.proofs.Common.{◌≡◌, ◌<◌, ◌≤◌, ℕ, Bool, true, ◌&&◌, nat_le, is_none, Option, Some, None, option_map, Ok, List, [], length, position, refl, subst, arith}
 use Rattle.std.specs.List.{All, list_all}
 use Rattle.std.specs.Str.{bytes_eq}
 use Rattle.std.proofs.lemmas.Bool.{and_parts, leb-true}
 use Rattle.std.proofs.lemmas.List.Quantifiers.{position-Some}
 use Rattle.serde_json.specs.Data.{Data}
-use Rattle.rw_schema.specs.First.{all_in}
 use Rattle.rw_schema.specs.declared.atom.Kind.TheVariants as kinds
 use Rattle.rw_schema.specs.declared.parts.AttrDef.{AttrDef}
 use Rattle.rw_schema.specs.Presentation.{Presentation, signature_of}
-use Rattle.rw_pattern.specs.PatternFaults.{are_in_range, equation_fault, has_few_parts, has_shape, is_in_range}
+use Rattle.rw_pattern.specs.PatternFaults.{are_in_range, equation_fault, has_few_parts, has_shape}
 use Rattle.rw_pattern.specs.PatternLists.{PatternLists}
-use Rattle.rw_doc.specs.declared.fault.DocFault.{DocFault}
-use Rattle.rw_doc.specs.Chain.{all_some, some_or}
+use Rattle.rw_doc.specs.Chain.{some_or}
 use Rattle.rw_doc.proofs.Chains.{chain, checked_then, there}
 use Rattle.rw_docpattern.specs.declared.entry.Entry.{Entry}
 use Rattle.rw_docpattern.specs.declared.entry.WrittenEntry.{WrittenEntry}
@@ -31,6 +29,7 @@ named_within attributes written entry is = found (position test attributes) refl
   where
     test : AttrDef → Bool
     test attribute = bytes_eq written.attribute attribute.name
+
     found : (place : Option ℕ) → position test attributes ≡ place
         → option_map (λ number. record { attr = record { 0 = number }; part = written.part; term = written.term }) place ≡ Some entry → entry.attr.0 < length attributes
     found None at is = let never : ⊥ = cc in absurd never

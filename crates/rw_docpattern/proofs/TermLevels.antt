@@ -1,9 +1,9 @@
 -- Terms, level by level.
-use Rattle.std.proofs.Common.{◌≡◌, ◌∙◌, ◌-◌, ◌<◌, ℕ, zero, suc, Bool, true, false, Option, Some, None, List, [], ◌∷◌, codes, option_and_then, if◌then◌else◌, refl, sym, ap, arith}
+use Rattle.std.proofs.Common.{◌≡◌, ◌∙◌, ◌-◌, ◌<◌, ℕ, zero, suc, Bool, true, false, Option, Some, None, List, [], ◌∷◌, codes, option_and_then, if◌then◌else◌, refl, ap, arith}
 use Rattle.serde_json.specs.Data.{Data}
 use Rattle.serde_json.specs.Find.{as_str, get}
 use Rattle.rw_schema.specs.First.{or_else}
-use Rattle.rw_doc.specs.Json.{as_list, atom_of, has_only}
+use Rattle.rw_doc.specs.Json.{as_list, has_only}
 use Rattle.rw_docpattern.specs.declared.term.WrittenTerm.{WrittenTerm}
 use Rattle.rw_docpattern.specs.Operations.{OperationTexts, leaf_of, on_values, operation_on, operation_texts}
 use Rattle.rw_docpattern.specs.Terms.{most_nesting, on_operands, operation_of, term_within, variable_of}

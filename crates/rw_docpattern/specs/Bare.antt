@@ -1,5 +1,5 @@
 -- What is found of the lists of a pattern without entries.
-use Rattle.std.specs.Prelude.{◌≡◌, ℕ, Bool, true, false, is_none, List, [], Option, Some, None, Result, Ok, Err, if◌then◌else◌}
+use Rattle.std.specs.Prelude.{◌≡◌, ℕ, true, false, is_none, List, [], Option, Some, None, Result, Ok, Err, if◌then◌else◌}
 use Rattle.rw_schema.specs.Signature.{Signature}
 use Rattle.rw_pattern.specs.PatternFaults.{has_shape, has_few_parts, are_in_range, equation_fault}
 use Rattle.rw_pattern.specs.PatternLists.{PatternLists, holders_in}

@@ -26,7 +26,7 @@ abbrev pub operation_texts : Data → Option OperationTexts
 operation_texts value =
     if has_only (codes "args" ∷ codes "op" ∷ []) value
     then option_and_then (λ name. option_and_then (on_values name) (option_and_then as_list (get (codes "args") value)))
-        (option_and_then as_str (get (codes "op") value))
+    (option_and_then as_str (get (codes "op") value))
     else None
 
 -- the operation on two terms, where both are there

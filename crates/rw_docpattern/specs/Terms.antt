@@ -25,7 +25,7 @@ abbrev pub operation_of : (Data → Option WrittenTerm) → Data → Option Writ
 operation_of read value =
     if has_only (codes "args" ∷ codes "op" ∷ []) value
     then option_and_then (λ name. option_and_then (on_operands read name) (option_and_then as_list (get (codes "args") value)))
-        (option_and_then as_str (get (codes "op") value))
+    (option_and_then as_str (get (codes "op") value))
     else None
 
 -- the term that a value is, with at most so many levels: an atom, a variable or an operation

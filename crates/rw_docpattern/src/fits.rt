@@ -10,13 +10,11 @@ ghost use Rattle.rw_docpattern.specs.Reads.{pattern_read};
 ghost use Rattle.rw_docpattern.specs.Sets as spec;
 
 use crate::PatternRead;
+use crate::term::MOST_LEVELS;
 use rw_pattern::{Pattern, Want};
 use rw_rule::SetCell;
 use rw_schema::{AttrDef, AttrId, Kind, Schema};
 use rw_terms::{OpTable, Term};
-
-/// The greatest number of levels of a term.
-const MOST_LEVELS: usize = 32;
 
 /// Whether the variable is wanted.
 fn wants(variable: u32, want: &Want) -> bool
@@ -74,8 +72,7 @@ fn fits_left(schema: &Schema, ops: &OpTable, left: &PatternRead, set: &SetCell) 
     requires { set.now.attr.0 < length schema.now.attributes }
     ensures { result ≡ spec.fits_left (signature_of schema.now) (operations ops.now) (pattern_read left.now) set.now }
 {
-    is_closed(&left.pattern, &set.term)
-        && fits_term(schema, ops.len(), left.kinds.as_slice(), set)
+    is_closed(&left.pattern, &set.term) && fits_term(schema, ops.len(), left.kinds.as_slice(), set)
 }
 
 /// Whether each set fits.
@@ -118,12 +115,7 @@ fn are_apart(sets: &[SetCell]) -> bool
 }
 
 /// Whether each set fits, and no cell is set twice.
-pub(crate) fn are_sets(
-    schema: &Schema,
-    ops: &OpTable,
-    left: &PatternRead,
-    sets: &[SetCell],
-) -> bool
+pub(crate) fn are_sets(schema: &Schema, ops: &OpTable, left: &PatternRead, sets: &[SetCell]) -> bool
     requires { All (λ set. set.attr.0 < length schema.now.attributes) sets.now }
     ensures { result ≡ spec.are_sets (signature_of schema.now) (operations ops.now) (pattern_read left.now) sets.now }
 {

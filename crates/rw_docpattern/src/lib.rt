@@ -12,14 +12,13 @@ mod maps;
 mod named;
 mod numbered;
 mod numbers;
-mod operation;
 mod objects;
+mod operation;
 mod patterns;
 mod piece;
 mod sets;
 mod term;
 mod terms;
-
 mod variables;
 mod wants;
 

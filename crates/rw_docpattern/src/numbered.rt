@@ -23,12 +23,7 @@ fn operation_in(ops: &OpTable, name: &str) -> u32
 }
 
 /// The operation with the number on two terms.
-fn operation(
-    alloc: Global,
-    number: u32,
-    first: Term,
-    second: Term,
-) -> Result<Term, OutOfMemory>
+fn operation(alloc: Global, number: u32, first: Term, second: Term) -> Result<Term, OutOfMemory>
     ensures { IfOk result (λ term. term ≡ Op number first second) }
 {
     let first = Boxed::new(alloc, first)?;
@@ -60,12 +55,7 @@ fn numbered(
 }
 
 /// The set that the entry is.
-fn set_of(
-    alloc: Global,
-    ops: &OpTable,
-    names: &Names,
-    entry: Entry,
-) -> Result<SetCell, OutOfMemory>
+fn set_of(alloc: Global, ops: &OpTable, names: &Names, entry: Entry) -> Result<SetCell, OutOfMemory>
     requires operations { length (operations ops.now) < 2 ^ 32 }
     requires variables { length names.now ≤ 256 }
     ensures { IfOk result (λ set. set ≡ spec.set_of (operations ops.now) names.now entry) }

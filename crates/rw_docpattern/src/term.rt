@@ -8,7 +8,7 @@ use rw_schema::{Atom, Text};
 use sqlite_items::Boxed;
 
 /// The greatest number of levels of a term.
-const MOST_LEVELS: usize = 32;
+pub(crate) const MOST_LEVELS: usize = 32;
 
 /// A term as a document has it: a constant, a variable by its name, or an operation by its name, on two terms.
 #[derive(Drop)]
@@ -46,9 +46,7 @@ impl WrittenTerm {
         match self {
             WrittenTerm::Const(_) | WrittenTerm::Var(_) => 1 <= most,
             WrittenTerm::Op(_, first, second) => {
-                1 <= most
-                    && first.get().has_at_most(most - 1)
-                    && second.get().has_at_most(most - 1)
+                1 <= most && first.get().has_at_most(most - 1) && second.get().has_at_most(most - 1)
             }
         }
     }

@@ -7,8 +7,11 @@ use Rattle.rw_docpattern.proofs.bare.bare_of.Goals as goal
 pub returns-in-Err-Shape : goal.returns-in-Err-Shape
 returns-in-Err-Shape c =
     let rows = map (λ row. row.items) c.args.rows.items in
-    rw c.refused.ensures (refl, misshapen (signature_of c.args.schema.now) c.args.sizes.items rows
-    (rw (c.in-Err-Shape.field-0-is, c.new-cells.ensures.items) at c.in-Err-Shape.ensures.built))
+    rw c.refused.ensures (
+      refl,
+      misshapen (signature_of c.args.schema.now) c.args.sizes.items rows
+          (rw (c.in-Err-Shape.field-0-is, c.new-cells.ensures.items) at c.in-Err-Shape.ensures.built),
+    )
 
 pub returns-in-Err-Limit : goal.returns-in-Err-Limit
 returns-in-Err-Limit c =

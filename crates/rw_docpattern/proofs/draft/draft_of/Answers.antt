@@ -6,11 +6,11 @@ use Rattle.rw_docpattern.proofs.draft.draft_of.Goals as goal
 pub returns-in_err-entries : goal.returns-in_err-entries
 returns-in_err-entries c =
     let made = draft_is c.args.schema.now c.args.piece c.args.form.sizes.items (map (λ row. row.items) c.args.form.rows.items) c.args.form.entries.items
-        c.in_ok-bare.bare c.in_ok-bare.ensures in
+    c.in_ok-bare.bare c.in_ok-bare.ensures in
     rw made (search rules)
 
 pub returns-in-Some : goal.returns-in-Some
 returns-in-Some c =
     let made = draft_is c.args.schema.now c.args.piece c.args.form.sizes.items (map (λ row. row.items) c.args.form.rows.items) c.args.form.entries.items
-        c.in_ok-bare.bare c.in_ok-bare.ensures in
+    c.in_ok-bare.bare c.in_ok-bare.ensures in
     rw made (search rules)
