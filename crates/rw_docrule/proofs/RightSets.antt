@@ -74,7 +74,7 @@ sets_read schema ops piece left value =
     let parts = and_parts (list_all (fits_left C ops left) sets) (is_none (set_again sets)) good in
     let both = all_parts (λ (set : SetCell). is_closed left.pattern set.term) (fits_term C (length ops) left.kinds) sets parts.0 in
     let on_parts : list_all (is_on_part right.pattern) sets ≡ true =
-        rw (list_all-map (is_on_part right.pattern) (set_of ops left.variables) entries) (entries_on_parts schema piece form entries read) in
+    rw (list_all-map (is_on_part right.pattern) (set_of ops left.variables) entries) (entries_on_parts schema piece form entries read) in
     record {
       closed = both.0;
       fit = all_both (is_on_part right.pattern) (fits_term C (length ops) left.kinds) sets on_parts both.1;
