@@ -1,12 +1,11 @@
 -- The sets of a right pattern that is read.
-use Rattle.std.proofs.Common.{◌≡◌, ℕ, Bool, true, ◌&&◌, is_none, Some, None, Result, Ok, List, [], ◌∷◌, length, map, refl, subst}
+use Rattle.std.proofs.Common.{◌≡◌, Bool, true, ◌&&◌, is_none, None, Ok, List, [], ◌∷◌, length, refl}
 use Rattle.std.specs.List.{list_all}
 use Rattle.std.proofs.lemmas.Bool.{and_parts}
 use Rattle.std.proofs.lemmas.List.Folds.{list_all-map}
 use Rattle.serde_json.specs.Data.{Data}
 use Rattle.rw_schema.specs.Presentation.{Presentation, signature_of}
 use Rattle.rw_schema.specs.Signature.{Signature}
-use Rattle.rw_pattern.specs.PatternLists.{PatternLists}
 use Rattle.rw_pattern.specs.PatternFaults.{equation_fault}
 use Rattle.rw_terms.specs.OpTables.{OpEntry}
 use Rattle.rw_rule.specs.declared.set.SetCell.{SetCell}
@@ -74,7 +73,7 @@ sets_read schema ops piece left value =
     let parts = and_parts (list_all (fits_left C ops left) sets) (is_none (set_again sets)) good in
     let both = all_parts (λ (set : SetCell). is_closed left.pattern set.term) (fits_term C (length ops) left.kinds) sets parts.0 in
     let on_parts : list_all (is_on_part right.pattern) sets ≡ true =
-        rw (list_all-map (is_on_part right.pattern) (set_of ops left.variables) entries) (entries_on_parts schema piece form entries read) in
+    rw (list_all-map (is_on_part right.pattern) (set_of ops left.variables) entries) (entries_on_parts schema piece form entries read) in
     record {
       closed = both.0;
       fit = all_both (is_on_part right.pattern) (fits_term C (length ops) left.kinds) sets on_parts both.1;

@@ -35,8 +35,15 @@ pub record RuleMembers : Type 0 where
 abbrev pub rule_members_in : Data → Option RuleMembers
 rule_members_in value = option_and_then (λ name. option_and_then (λ kind. option_and_then (λ left. option_and_then (λ keep. option_and_then (λ right.
     option_and_then (λ l. option_map (λ r. record {
-      name = name; kind = kind; left = left; keep = keep; right = right; l = l; r = r;
-      monic = get (codes "monic") value; conditions = get (codes "conditions") value;
+      name = name;
+      kind = kind;
+      left = left;
+      keep = keep;
+      right = right;
+      l = l;
+      r = r;
+      monic = get (codes "monic") value;
+      conditions = get (codes "conditions") value;
     }) (get (codes "r") value)) (get (codes "l") value)) (get (codes "right") value)) (get (codes "keep") value)) (get (codes "left") value))
     (get (codes "kind") value)) (get (codes "name") value)
 
@@ -98,7 +105,7 @@ abbrev pub watch_members : Data → Option WatchMembers
 watch_members value =
     if has_only watch_keys value
     then option_and_then (λ name. option_map (λ pattern. record { name = name; pattern = pattern; monic = get (codes "monic") value })
-        (get (codes "pattern") value)) (get (codes "name") value)
+    (get (codes "pattern") value)) (get (codes "name") value)
     else None
 
 -- the name, and the names of monic objects

@@ -172,11 +172,7 @@ fn read_json(alloc: Global, bytes: &[u8]) -> Result<Value, ReadDocEnd>
 /// that is not read, a rule with conditions, of another kind than double pushout, whose map to the right is not
 /// injective, or with a match that is not. Want of memory may end a reading at any bytes. The time and the memory are
 /// linear in the bytes and the counts of parts, the time up to a logarithm.
-pub fn read_document(
-    alloc: Global,
-    bytes: &[u8],
-    ops: &OpTable,
-) -> Result<Document, ReadDocEnd>
+pub fn read_document(alloc: Global, bytes: &[u8], ops: &OpTable) -> Result<Document, ReadDocEnd>
     requires { length (entries ops.now) < 2 ^ 32 }
     ensures gives { Gives document_lists result (spec.read_document (entries ops.now) bytes.now) }
     ensures sound { IfOk result (λ document. IsSound (length (entries ops.now)) (document_lists document)) }

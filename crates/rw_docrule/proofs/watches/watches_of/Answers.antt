@@ -1,5 +1,5 @@
 -- The watch and its name are put behind those before it.
-use Rattle.std.proofs.Common.{◌≡◌, ◌∙◌, ◌+◌, ℕ, Ok, List, [], ◌∷◌, ◌++◌, length, map, length-append, append_assoc, arith}
+use Rattle.std.proofs.Common.{◌≡◌, ◌∙◌, Ok, List, [], ◌∷◌, ◌++◌, length, map, length-append, append_assoc}
 use Rattle.std.proofs.lemmas.List.{length-map, map-append}
 use Rattle.std.proofs.lemmas.List.Elements.{All-push}
 use Rattle.serde_json.specs.View.{view}
@@ -30,7 +30,11 @@ loop-place-preserved c =
           c.loop-place.invariant.gives c.loop-place-test.true c.index-items-place.is read);
       known = rw c.in_ok-push-2.ensures.items (All-push IsKnown watches watch c.loop-place.invariant.known c.in_ok-watch.ensures.known);
       names = rw (
-        mapped, c.in_ok-push.ensures.ok, c.loop-place.invariant.names, c.as_str.ensures, map-append (λ (watch : WatchLists). watch.name) before (lists_of_watch watch ∷ []),
+        mapped,
+        c.in_ok-push.ensures.ok,
+        c.loop-place.invariant.names,
+        c.as_str.ensures,
+        map-append (λ (watch : WatchLists). watch.name) before (lists_of_watch watch ∷ []),
         append_assoc,
       );
       long = rw (c.in_ok-push-2.ensures.items, length-append watches (watch ∷ []), c.loop-place.invariant.long);
