@@ -1,28 +1,17 @@
 -- Rules that are read, and rules that are built of them.
-use Rattle.std.proofs.Common.{◌≡◌, ◌≤◌, ℕ, Bool, true, false, not, ◌&&◌, is_none, Option, Some, None, Result, Ok, Err, List, [], ◌∷◌, ◌++◌, length, map, refl, sym, append_assoc, ◌∙◌}
+use Rattle.std.proofs.Common.{◌≡◌, ℕ, Bool, true, false, not, ◌&&◌, Option, Some, None, Ok, Err, List, [], ◌∷◌, ◌++◌, map, refl, sym, append_assoc, ◌∙◌}
 use Rattle.std.specs.List.{list_all}
-use Rattle.std.proofs.lemmas.Bool.{and_parts}
 use Rattle.rw_schema.specs.First.{or_else, fault_unless}
 use Rattle.rw_schema.specs.Signature.{Signature}
-use Rattle.rw_schema.proofs.Firsts.{or_else_none, passed_unless}
-use Rattle.rw_pattern.specs.declared.map_fault.MapFault.TheVariants.{Shape}
-use Rattle.rw_pattern.specs.MapFaults.{has_map_shape, image_fault, map_fault, square_fault}
-use Rattle.rw_pattern.specs.PatternLists.{PatternLists}
-use Rattle.rw_pattern.proofs.Maps.{lists_long}
-use Rattle.rw_pattern.proofs.Over.{size_count}
+use Rattle.rw_schema.proofs.Firsts.{or_else_none}
 use Rattle.rw_rule.specs.declared.fault.RuleFault.{RuleFault}
 use Rattle.rw_rule.specs.declared.fault.RuleFault.TheVariants.{NotHom, NotInjective, CyclicSqpo, Unbound, BadTerm, SetTwice, NoValueGiven, OutOfMemory}
-use Rattle.rw_rule.specs.declared.kind.RuleKind.{RuleKind}
-use Rattle.rw_rule.specs.declared.kind.RuleKind.TheVariants.{Dpo, Spo, Sqpo}
-use Rattle.rw_rule.specs.Images.{is_injective}
-use Rattle.rw_rule.specs.PlainRules.{is_dpo, is_plain}
-use Rattle.rw_rule.specs.RuleFaults.{BuildsRule, IsRuleOver, are_maps, built, is_apart, is_map, is_sqpo, monic_of, rule_fault}
+use Rattle.rw_rule.specs.RuleFaults.{BuildsRule, are_maps, built, is_apart, is_sqpo, rule_fault}
 use Rattle.rw_rule.specs.RuleLists.{RuleLists}
 use Rattle.rw_rule.specs.Sets.{bad_set, set_again, unbound_set, value_missing}
 use Rattle.rw_doc.specs.Chain.{checked}
 use Rattle.rw_docrule.specs.Documents.{is_built, not_built}
 use Rattle.rw_docrule.specs.Rules.{RuleRead}
-use Rattle.rw_docrule.proofs.Checked.{none_is}
 
 -- the lists of what is read
 abbrev pub rule_in : RuleRead → RuleLists

@@ -1,5 +1,6 @@
 mod BuiltRules
 mod Checked
+mod Examples
 mod FirstReadings
 mod Marks
 mod ReadMaps

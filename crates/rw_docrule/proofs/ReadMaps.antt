@@ -1,5 +1,5 @@
 -- Images that are read are a map of patterns.
-use Rattle.std.proofs.Common.{◌≡◌, ◌==◌, ◌≤◌, ℕ, true, Option, Some, None, option_map, Result, Ok, List, length, refl, ap, subst, ◌∙◌, sym, arith}
+use Rattle.std.proofs.Common.{◌≡◌, ◌==◌, ℕ, true, Option, Some, None, option_map, Ok, List, length, refl, subst}
 use Rattle.std.proofs.lemmas.Bool.{eqb-true}
 use Rattle.serde_json.specs.Data.{Data}
 use Rattle.rw_schema.specs.Signature.{Signature}
@@ -7,7 +7,6 @@ use Rattle.rw_pattern.specs.declared.map_fault.MapFault.{MapFault}
 use Rattle.rw_pattern.specs.MapFaults.{map_fault}
 use Rattle.rw_pattern.specs.PatternLists.{PatternLists}
 use Rattle.rw_rule.specs.RuleFaults.{is_map}
-use Rattle.rw_doc.specs.declared.fault.DocFault.{DocFault}
 use Rattle.rw_doc.specs.Chain.{some_or, unfaulted}
 use Rattle.rw_doc.proofs.Chains.{chain, checked_then}
 use Rattle.rw_docpattern.specs.declared.piece.Piece.{Piece}

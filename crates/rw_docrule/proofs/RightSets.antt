@@ -1,12 +1,11 @@
 -- The sets of a right pattern that is read.
-use Rattle.std.proofs.Common.{◌≡◌, ℕ, Bool, true, ◌&&◌, is_none, Some, None, Result, Ok, List, [], ◌∷◌, length, map, refl, subst}
+use Rattle.std.proofs.Common.{◌≡◌, Bool, true, ◌&&◌, is_none, None, Ok, List, [], ◌∷◌, length, refl}
 use Rattle.std.specs.List.{list_all}
 use Rattle.std.proofs.lemmas.Bool.{and_parts}
 use Rattle.std.proofs.lemmas.List.Folds.{list_all-map}
 use Rattle.serde_json.specs.Data.{Data}
 use Rattle.rw_schema.specs.Presentation.{Presentation, signature_of}
 use Rattle.rw_schema.specs.Signature.{Signature}
-use Rattle.rw_pattern.specs.PatternLists.{PatternLists}
 use Rattle.rw_pattern.specs.PatternFaults.{equation_fault}
 use Rattle.rw_terms.specs.OpTables.{OpEntry}
 use Rattle.rw_rule.specs.declared.set.SetCell.{SetCell}

@@ -1,8 +1,7 @@
 -- The lists of a rule that is read have no fault but that arrows may lead round a cycle.
-use Rattle.std.proofs.Common.{◌≡◌, ℕ, Bool, true, false, not, ◌&&◌, ◌||◌, is_none, Some, None, Result, Ok, List, [], ◌∷◌, length, refl, subst}
+use Rattle.std.proofs.Common.{◌≡◌, ℕ, Bool, true, false, not, ◌&&◌, ◌||◌, is_none, None, Ok, List, length, refl, subst}
 use Rattle.rw_schema.specs.Presentation.{Presentation, signature_of}
 use Rattle.rw_schema.specs.Signature.{Signature}
-use Rattle.rw_pattern.specs.PatternLists.{PatternLists}
 use Rattle.rw_terms.specs.OpTables.{OpEntry}
 use Rattle.rw_rule.specs.declared.fault.RuleFault.TheVariants.{Unbound, BadTerm}
 use Rattle.rw_rule.specs.declared.kind.RuleKind.{RuleKind}

@@ -1,5 +1,5 @@
 -- What is known of rules and watches that are read.
-use Rattle.std.specs.Prelude.{◌≡◌, ◌<◌, ◌≤◌, ℕ, false, length, List, [], None}
+use Rattle.std.specs.Prelude.{◌≡◌, ◌<◌, ◌≤◌, ℕ, false, length, [], None}
 use Rattle.std.specs.List.{All}
 use Rattle.rw_schema.specs.Signature.{Signature}
 use Rattle.rw_pattern.specs.PatternFaults.{IsPatternOver}

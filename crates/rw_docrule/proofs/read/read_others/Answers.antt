@@ -1,5 +1,5 @@
 -- The rules and the watches are read over the schema, and then the rules are built.
-use Rattle.std.proofs.Common.{◌≡◌, ◌∙◌, ◌&&◌, Bool, true, false, not, Option, Ok, List, [], All, map, option_map, codes, length, refl, sym, Vec, Global}
+use Rattle.std.proofs.Common.{◌≡◌, ◌∙◌, true, false, List, [], All, map, codes, refl, sym, Vec, Global}
 use Rattle.std.specs.List.{list_all}
 use Rattle.std.proofs.lemmas.Result.{err_from_is_err_and}
 use Rattle.std.proofs.lemmas.List.{length-map}
@@ -7,12 +7,11 @@ use Rattle.std.proofs.lemmas.List.Elements.{All-map, All-weaker}
 use Rattle.serde_json.specs.Data.{Data}
 use Rattle.serde_json.specs.Find.{get}
 use Rattle.serde_json.specs.View.{view}
-use Rattle.rw_schema.specs.Presentation.{Presentation, signature_of}
+use Rattle.rw_schema.specs.Presentation.{signature_of}
 use Rattle.rw_schema.specs.Signature.{Signature}
 use Rattle.rw_rule.specs.declared.rule.Rule as built
 use Rattle.rw_rule.specs.declared.watch.Watch as declared
 use Rattle.rw_terms.specs.OpEntries.{entries}
-use Rattle.rw_terms.specs.OpTables.{OpEntry}
 use Rattle.rw_rule.specs.RuleFaults.{IsGoalOver}
 use Rattle.rw_rule.specs.RuleLists.{RuleLists, WatchLists}
 use Rattle.rw_rule.specs.RuleParts.{lists_of_watch}

@@ -1,7 +1,6 @@
 -- The pieces are read one after the other, and what they make is a rule unless arrows lead round a cycle.
-use Rattle.std.proofs.Common.{rules, ◌≡◌, ℕ, Ok, List, length}
+use Rattle.std.proofs.Common.{◌≡◌, Ok}
 use Rattle.std.proofs.lemmas.Result.{err_from_is_err_and}
-use Rattle.rw_schema.specs.Presentation.{signature_of}
 use Rattle.rw_terms.specs.OpEntries.{entries}
 use Rattle.rw_docrule.specs.Heads as heads
 use Rattle.rw_docrule.specs.Members.{members_of_rule}

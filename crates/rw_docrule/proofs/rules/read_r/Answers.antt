@@ -1,5 +1,5 @@
 -- The images are as many as the objects, and the parts are over the schema.
-use Rattle.std.proofs.Common.{◌≡◌, ◌≤◌, ℕ, List, length, ap, arith}
+use Rattle.std.proofs.Common.{◌≡◌, length, ap, arith}
 use Rattle.std.proofs.lemmas.List.Elements.{All-nil}
 use Rattle.serde_json.specs.View.{view}
 use Rattle.rw_schema.specs.Presentation.{signature_of}
