@@ -52,6 +52,7 @@ const LEFTS: &str = r#"
 /// Kept patterns of a rule, and the line of the document with each.
 const KEEPS: &str = r#"
 {"parts":[1,0],"rows":[[],[0]],"cells":[]} => {"at":[0,2,0],"fault":2,"section":"rules"}
+{"parts":[0,65],"rows":[[0,0,0,0,0,0,0,0,0,0,0,0,0,0,0,0,0,0,0,0,0,0,0,0,0,0,0,0,0,0,0,0,0,0,0,0,0,0,0,0,0,0,0,0,0,0,0,0,0,0,0,0,0,0,0,0,0,0,0,0,0,0,0,0,0],[]]} => {"at":[0,2,0],"fault":4,"section":"rules"}
 {"parts":[1,0],"rows":[[],[1]]} => {"at":[0,2,0],"fault":8,"section":"rules"}
 {"parts":[2,0],"rows":[[],[0,0]]} => {"at":[0,2,0],"fault":10,"section":"rules"}"#;
 
@@ -130,7 +131,7 @@ fn faults_of_sides(rt: HostRuntime) -> Result<(), Fail> {
             keep.as_str(),
             KEEPS,
             r#","right":0,"l":0,"r":0}]}"#
-        )? == 3
+        )? == 4
     );
     let right = format!(in alloc;
         "{}{{\"parts\":[1,0],\"rows\":[[],[0]]}},\"right\":",
