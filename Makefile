@@ -9,5 +9,6 @@ test:
 
 install: all
 	install -D crates/rewrite/out/rewrite $(DESTDIR)$(PREFIX)/bin/rewrite
+	install -D -m 644 docs/rewrite.1 $(DESTDIR)$(PREFIX)/share/man/man1/rewrite.1
 
 .PHONY: all test install

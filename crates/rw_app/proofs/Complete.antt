@@ -7,7 +7,7 @@ use Rattle.rw_outside.specs.Reading.{Came, IsReadWhole}
 use Rattle.rw_outside.specs.Writing.{WritesAll}
 use Rattle.rw_app.specs.declared.status.Status.{Status}
 use Rattle.rw_app.specs.declared.status.Status.TheVariants.{Done, BadWords, Refused, Spent, Failed, NoMemory, ReadFault, WriteFault, TooLong}
-use Rattle.rw_app.specs.Answers.{AnswerText}
+use Rattle.rw_app.specs.AnswerText.{AnswerText}
 use Rattle.rw_app.specs.Commands.{Request}
 use Rattle.rw_app.specs.Endings.{Outside, most_bytes, AppendsPart, Written, Answered, Ends, EndsAsAsked, IsWhole, IsComplete}
 

@@ -3,6 +3,7 @@ pub mod Complete
 pub mod Differences
 pub mod Found
 pub mod KeptLists
+pub mod LargeObjects
 pub mod Leading
 pub mod Lengths
 pub mod Obstructed

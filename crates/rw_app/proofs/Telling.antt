@@ -8,7 +8,8 @@ use Rattle.rw_docrule.specs.Models.{DocumentLists}
 use Rattle.rw_print.specs.Lines.{line, end_data}
 use Rattle.rw_app.specs.declared.runner.Ran.{Ran}
 use Rattle.rw_app.specs.declared.world.World.{World}
-use Rattle.rw_app.specs.Answers.{AnswerText, status_of_end, told}
+use Rattle.rw_app.specs.AnswerText.{AnswerText}
+use Rattle.rw_app.specs.Answers.{status_of_end, told}
 use Rattle.rw_app.specs.Kept.{lists_in}
 use Rattle.rw_app.specs.RunTexts.{firing_line, sizes_in, last_line, run_text}
 use Rattle.rw_app.specs.Runners.{HasRun, IsWorld, at_first}

@@ -9,22 +9,16 @@ use Rattle.rw_docrule.specs.Documents.{read_document}
 use Rattle.rw_docrule.specs.Models.{DocumentLists}
 use Rattle.rw_print.specs.declared.last.End.{End}
 use Rattle.rw_print.specs.declared.last.End.TheVariants as ends
-use Rattle.rw_print.specs.Lines.{line, matches_data, check_data, fault_data}
+use Rattle.rw_print.specs.Lines.{line, matches_data, check_data}
 use Rattle.rw_app.specs.declared.status.Status.{Status}
-use Rattle.rw_app.specs.declared.status.Status.TheVariants.{Done, Refused, Failed, Spent}
+use Rattle.rw_app.specs.declared.status.Status.TheVariants.{Done, Failed, Spent}
+use Rattle.rw_app.specs.AnswerText.{AnswerText, refusal, done_with}
 use Rattle.rw_app.specs.Commands.{Request}
 use Rattle.rw_app.specs.Commands as commands
 use Rattle.rw_app.specs.Kept.{named_goals, list_in, lists_in}
+use Rattle.rw_app.specs.Limits.{IsPushoutAnswer, IsPullbackAnswer}
 use Rattle.rw_app.specs.Runs.{Run, IsRun}
 use Rattle.rw_app.specs.RunTexts.{run_text, sizes_in}
-
-pub record AnswerText : Type 0 where
-  pub status : Status
-  pub text : List ℕ
-
--- a fault is answered by its line
-abbrev pub refusal : DocFault → AnswerText
-refusal fault = record { status = Refused fault; text = line (fault_data fault.code fault.section fault.first fault.second fault.third) }
 
 -- no rule and no watch has the name that was asked for
 abbrev pub unknown_name : DocFault
@@ -33,17 +27,11 @@ unknown_name = record { code = 6; section = Whole; first = 0; second = 0; third 
 -- the matches of a goal, in lexicographic order
 abbrev pub listed : DocumentLists → Option WatchLists → AnswerText
 listed document None = refusal unknown_name
-listed document (Some named) = record {
-  status = Done;
-  text = line (matches_data named.name (list_in document document.table.rows named));
-}
+listed document (Some named) = done_with (line (matches_data named.name (list_in document document.table.rows named)))
 
 -- the lengths of the kept lists, and the numbers of parts
 abbrev pub checked : DocumentLists → AnswerText
-checked document = record {
-  status = Done;
-  text = line (check_data (map length (lists_in document document.table.rows)) (sizes_in document.table.rows));
-}
+checked document = done_with (line (check_data (map length (lists_in document document.table.rows)) (sizes_in document.table.rows)))
 
 -- the status of a run's end
 abbrev pub status_of_end : End → Status
@@ -60,6 +48,8 @@ abbrev pub IsAnswerTo : List OpEntry → Request → Result DocumentLists DocFau
 IsAnswerTo ops request (Err fault) answer = answer ≡ refusal fault
 IsAnswerTo ops (commands.matches name) (Ok document) answer = answer ≡ listed document (find (λ named. bytes_eq name named.name) (named_goals document))
 IsAnswerTo ops commands.check (Ok document) answer = answer ≡ checked document
+IsAnswerTo ops commands.pushout (Ok document) answer = IsPushoutAnswer document.schema document.span answer
+IsAnswerTo ops commands.pullback (Ok document) answer = IsPullbackAnswer document.schema document.cospan answer
 IsAnswerTo ops (commands.run fuel seed) (Ok document) answer = (run : Run) × IsRun (codes_of ops) document fuel run × (answer ≡ told document run)
 
 -- the answer is that to a request about the document that bytes are, where these operations can be named

@@ -4,7 +4,7 @@ use Rattle.std.specs.Str.{bytes_eq, all_ascii_digits}
 use Rattle.std.specs.Str.Parse.{digits_value}
 use Rattle.rw_schema.specs.First.{or_else}
 use Rattle.rw_app.specs.declared.command.Command.{Command}
-use Rattle.rw_app.specs.declared.command.Command.TheVariants.{Matches, Run, Check}
+use Rattle.rw_app.specs.declared.command.Command.TheVariants.{Matches, Run, Check, Pushout, Pullback}
 
 -- what is asked for
 pub data Request : Type 0 where
@@ -14,12 +14,18 @@ pub data Request : Type 0 where
   run : ℕ → ℕ → Request
   -- the lengths of the kept lists and the numbers of parts
   check : Request
+  -- the pushout of the span
+  pushout : Request
+  -- the pullback of the cospan
+  pullback : Request
 
 -- what a command asks for
 abbrev pub asked_for : Command → Request
 asked_for (Matches name) = matches name.now
 asked_for (Run fuel seed) = run fuel seed
 asked_for Check = check
+asked_for Pushout = pushout
+asked_for Pullback = pullback
 
 -- a numeral in base ten: digits alone, and no zero before another digit
 abbrev pub is_numeral : List ℕ → Bool
@@ -58,9 +64,12 @@ where_word command word request = if bytes_eq word command then request else Non
 
 -- what one word asks for
 abbrev pub with_word : List ℕ → Option Request
-with_word word = or_else (where_word (codes "run") word (Some (run usual_fuel 0))) (where_word (codes "check") word (Some check))
+with_word word =
+    or_else (where_word (codes "run") word (Some (run usual_fuel 0)))
+    (or_else (where_word (codes "check") word (Some check))
+    (or_else (where_word (codes "pushout") word (Some pushout)) (where_word (codes "pullback") word (Some pullback))))
 
--- what the words ask for: `matches NAME`, `run [--fuel N] [--seed N]`, or `check`
+-- what the words ask for: `matches NAME`, `run [--fuel N] [--seed N]`, `check`, `pushout` or `pullback`
 abbrev pub request_of : List (List ℕ) → Option Request
 request_of [] = None
 request_of (word ∷ []) = with_word word

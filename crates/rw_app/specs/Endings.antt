@@ -5,7 +5,7 @@ use Rattle.rw_outside.specs.Faults.{Rose}
 use Rattle.rw_outside.specs.Reading.{Came, IsReadWhole}
 use Rattle.rw_app.specs.declared.status.Status.{Status}
 use Rattle.rw_app.specs.declared.status.Status.TheVariants.{Done, BadWords, Refused, Spent, Failed, NoMemory, ReadFault, WriteFault, TooLong}
-use Rattle.rw_app.specs.Answers.{AnswerText}
+use Rattle.rw_app.specs.AnswerText.{AnswerText}
 use Rattle.rw_app.specs.Commands.{Request, usage}
 
 -- the greatest number of bytes that are read

@@ -1,8 +1,10 @@
+pub mod AnswerText
 pub mod AnswerTexts
 pub mod Answers
 pub mod Commands
 pub mod Endings
 pub mod Kept
+pub mod Limits
 pub mod OneRun
 pub mod Operations
 pub mod Picked

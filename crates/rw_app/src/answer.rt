@@ -9,7 +9,8 @@ ghost use Rattle.rw_rule.specs.RuleFaults.{IsGoalOver};
 ghost use Rattle.rw_rule.specs.RuleParts.{goal_of_parts};
 ghost use Rattle.rw_terms.specs.OpEntries.{entries};
 ghost use Rattle.rw_docrule.specs.Models.{document_lists, IsSound};
-ghost use Rattle.rw_app.specs.Answers.{IsAnswer, IsAnswerTo, checked, listed, refusal as refusal_of};
+ghost use Rattle.rw_app.specs.AnswerText.{refusal as refusal_of};
+ghost use Rattle.rw_app.specs.Answers.{IsAnswer, IsAnswerTo, checked, listed};
 ghost use Rattle.rw_app.specs.AnswerTexts.{text_of_answer};
 ghost use Rattle.rw_app.specs.Commands.{asked_for, matches};
 ghost use Rattle.rw_app.specs.Kept.{HasGoals, named_goals};
@@ -19,6 +20,7 @@ ghost use Rattle.rw_print.specs.Lines.{line, check_data};
 
 use crate::counts::{lengths_of, sizes_of};
 use crate::kept::kept_lists;
+use crate::limits::{pull_back, push_out};
 use crate::named::{Named, goal_named};
 use crate::runner::run_document;
 use crate::{Command, Status};
@@ -70,6 +72,8 @@ fn answer_about(
         Command::Matches(name) => list_matches(alloc, name, document),
         Command::Run { fuel, seed: _ } => run_document(alloc, document, fuel, ops),
         Command::Check => check_document(alloc, document),
+        Command::Pushout => push_out(alloc, document),
+        Command::Pullback => pull_back(alloc, document),
     }
 }
 
@@ -140,7 +144,7 @@ fn count_lists(
 }
 
 /// A document or a command that is refused is answered by the line of its fault.
-fn refusal(alloc: Global, fault: DocFault) -> Result<Answer, OutOfMemory>
+pub(crate) fn refusal(alloc: Global, fault: DocFault) -> Result<Answer, OutOfMemory>
     ensures { IfOk result (λ answer. text_of_answer answer ≡ refusal_of fault) }
 {
     let text = fault_line(

@@ -15,6 +15,10 @@ pub enum Command<'a> {
     Run { fuel: u32, seed: u64 },
     /// The lengths of the kept lists, and the numbers of parts.
     Check,
+    /// The pushout of the span.
+    Pushout,
+    /// The pullback of the cospan.
+    Pullback,
 }
 
 /// The line that is written where the words are those of no command.
@@ -33,6 +37,8 @@ pub(crate) fn command_of(words: &Vec<String>) -> Option<Command<'_>>
         "matches" => matches_command(others),
         "run" => run_command(others),
         "check" => check_command(others),
+        "pushout" => pushout_command(others),
+        "pullback" => pullback_command(others),
         _ => None,
     }
 }
@@ -53,6 +59,26 @@ fn check_command<'a>(words: &[String]) -> Option<Command<'a>>
 {
     match words {
         [] => Some(Command::Check),
+        _ => None,
+    }
+}
+
+/// The command `pushout` with these words behind it: none.
+fn pushout_command<'a>(words: &[String]) -> Option<Command<'a>>
+    ensures { option_map asked_for result ≡ request_of (codes "pushout" ∷ map string_bytes words.now) }
+{
+    match words {
+        [] => Some(Command::Pushout),
+        _ => None,
+    }
+}
+
+/// The command `pullback` with these words behind it: none.
+fn pullback_command<'a>(words: &[String]) -> Option<Command<'a>>
+    ensures { option_map asked_for result ≡ request_of (codes "pullback" ∷ map string_bytes words.now) }
+{
+    match words {
+        [] => Some(Command::Pullback),
         _ => None,
     }
 }

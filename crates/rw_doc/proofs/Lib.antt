@@ -2,6 +2,7 @@ pub mod Chains
 pub mod EmptyInstances
 pub mod Faultless
 pub mod FirstFailures
+pub mod Listed
 pub mod Named
 pub mod PartLists
 pub mod Readings

@@ -3,6 +3,8 @@ pub mod Faults
 pub mod Gives
 pub mod Instances
 pub mod Json
+pub mod Numbers
+pub mod Pieces
 pub mod Schemas
 pub mod Sections
 pub mod Texts

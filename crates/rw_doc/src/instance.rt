@@ -110,18 +110,6 @@ fn empty_cells(alloc: Global, count: usize) -> Result<Vec<Vec<Option<Atom>>>, Ou
     Ok(lists)
 }
 
-/// The instance with lists that are one.
-fn sound_table(alloc: Global, schema: &Schema, rows: Rows) -> Result<Table, OutOfMemory>
-    requires { table_fault (signature_of schema.now) rows ≡ None }
-    ensures { IfOk result (λ table. table ≡ record { signature = signature_of schema.now; rows = rows }) }
-{
-    match Table::new(alloc, schema, rows) {
-        Ok(table) => Ok(table),
-        Err(TableFault::OutOfMemory) => Err(OutOfMemory),
-        Err(_) => unreachable!(),
-    }
-}
-
 /// The lists in which no object has a part.
 fn empty_lists(alloc: Global, schema: &Schema) -> Result<Rows, OutOfMemory>
     ensures { IfOk result (λ lists. lists ≡ (spec.empty_instance (signature_of schema.now)).rows) }
@@ -137,5 +125,5 @@ pub fn empty_instance(alloc: Global, schema: &Schema) -> Result<Table, OutOfMemo
     ensures { IfOk result (λ table. table ≡ spec.empty_instance (signature_of schema.now)) }
 {
     let rows = empty_lists(alloc, schema)?;
-    sound_table(alloc, schema, rows)
+    Table::of_instance(alloc, schema, rows)
 }

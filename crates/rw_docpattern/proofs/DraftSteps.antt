@@ -9,11 +9,11 @@ use Rattle.rw_doc.specs.Chain.{and_then, checked, some_or}
 use Rattle.rw_docpattern.specs.declared.bare.Bare.{Bare}
 use Rattle.rw_docpattern.specs.declared.entry.Entry.{Entry}
 use Rattle.rw_docpattern.specs.declared.entry.WrittenEntry.{WrittenEntry}
-use Rattle.rw_docpattern.specs.declared.piece.Piece.{Piece}
+use Rattle.rw_doc.specs.declared.piece.Piece.{Piece}
 use Rattle.rw_docpattern.specs.Bare.{IsBare, lists_of}
 use Rattle.rw_docpattern.specs.Drafts.{Draft, draft_of, entries_of}
 use Rattle.rw_docpattern.specs.Patterns.{entries_named, fits_atom, is_on_part}
-use Rattle.rw_docpattern.specs.Pieces.{fault_in}
+use Rattle.rw_doc.specs.Pieces.{fault_in}
 use Rattle.rw_docpattern.specs.Terms.{is_within_limits}
 
 -- the draft with a pattern and entries

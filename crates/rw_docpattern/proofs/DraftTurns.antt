@@ -8,11 +8,11 @@ use Rattle.rw_pattern.specs.PatternLists.{PatternLists}
 use Rattle.rw_doc.specs.declared.fault.DocFault.{DocFault}
 use Rattle.rw_doc.specs.Chain.{and_then, checked, some_or}
 use Rattle.rw_docpattern.specs.declared.entry.Entry.{Entry}
-use Rattle.rw_docpattern.specs.declared.piece.Piece.{Piece}
+use Rattle.rw_doc.specs.declared.piece.Piece.{Piece}
 use Rattle.rw_docpattern.specs.Drafts.{Draft, draft_of, pattern_with, read_draft}
 use Rattle.rw_docpattern.specs.Forms.{PatternForm, bare_keys, form_with, pattern_keys}
 use Rattle.rw_docpattern.specs.Patterns.{PatternRead, bare_lists, read_bare_pattern, read_entries, read_form, read_pattern}
-use Rattle.rw_docpattern.specs.Pieces.{fault_in}
+use Rattle.rw_doc.specs.Pieces.{fault_in}
 use Rattle.rw_docpattern.specs.Rights.{right_with}
 use Rattle.rw_docpattern.specs.Sets.{read_right}
 

@@ -9,7 +9,7 @@ use Rattle.std.proofs.lemmas.Slice.Eq.{bytes_eq-Decides}
 use Rattle.rw_schema.specs.declared.atom.Kind.{Kind}
 use Rattle.rw_schema.specs.declared.parts.AttrDef.{AttrDef}
 use Rattle.rw_schema.specs.First.{flat_map_in}
-use Rattle.rw_pattern.proofs.Sequences.{flat_map_in_more}
+use Rattle.rw_spec.proofs.Sequences.{flat_map_in_more}
 use Rattle.rw_docpattern.specs.declared.entry.Entry.{Entry}
 use Rattle.rw_docpattern.specs.Numbering.{name_of, new_name}
 use Rattle.rw_docpattern.specs.Variables.{first_at, has_variable, is_name_of, is_new, kind_at, variable_name}

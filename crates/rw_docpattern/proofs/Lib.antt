@@ -3,7 +3,6 @@ pub mod Checked
 pub mod DraftSteps
 pub mod DraftTurns
 pub mod FirstPlaces
-pub mod Listed
 pub mod SoundCells
 pub mod SoundDrafts
 pub mod TermLevels

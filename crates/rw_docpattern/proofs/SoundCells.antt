@@ -16,12 +16,12 @@ use Rattle.rw_pattern.specs.PatternLists.{PatternLists}
 use Rattle.rw_doc.specs.Chain.{all_some, and_then, checked}
 use Rattle.rw_docpattern.specs.declared.entry.Entry.{Entry}
 use Rattle.rw_docpattern.specs.declared.term.WrittenTerm.{WrittenTerm, WrittenTerm-F, fold-WrittenTerm, fold-roll-WrittenTerm, ind-WrittenTerm, roll-WrittenTerm}
-use Rattle.rw_docpattern.specs.declared.piece.Piece.{Piece}
+use Rattle.rw_doc.specs.declared.piece.Piece.{Piece}
 use Rattle.rw_docpattern.specs.Drafts.{Draft, IsSound, pattern_of, pattern_with, with_cells}
 use Rattle.rw_docpattern.specs.Patterns.{PatternRead, cell_of, fits_atom, fits_step, is_on_part, want_of, want_step}
-use Rattle.rw_docpattern.specs.Pieces.{fault_in}
+use Rattle.rw_doc.specs.Pieces.{fault_in}
 use Rattle.rw_docpattern.specs.Variables.{kinds_of, number_in, variables_of}
-use Rattle.rw_docpattern.proofs.Listed.{some_all, some_long, some_pass}
+use Rattle.rw_doc.proofs.Listed.{some_all, some_long, some_pass}
 
 -- what a cell has of its entry
 record IsCellOf (names : List (List ℕ)) (entry : Entry) (cell : PatternCell) : Type 0 where

@@ -14,14 +14,14 @@ use Rattle.rw_doc.specs.Chain.{some_or}
 use Rattle.rw_doc.proofs.Chains.{chain, checked_then, there}
 use Rattle.rw_docpattern.specs.declared.entry.Entry.{Entry}
 use Rattle.rw_docpattern.specs.declared.entry.WrittenEntry.{WrittenEntry}
-use Rattle.rw_docpattern.specs.declared.piece.Piece.{Piece}
+use Rattle.rw_doc.specs.declared.piece.Piece.{Piece}
 use Rattle.rw_docpattern.specs.Drafts.{Draft, IsSound, draft_of, read_draft}
 use Rattle.rw_docpattern.specs.Forms.{PatternForm, form_with}
 use Rattle.rw_docpattern.specs.Patterns.{are_parts_there, bare_lists, entries_named, entry_named, fits_atom, is_form_within, is_on_part, read_entries}
-use Rattle.rw_docpattern.specs.Pieces.{fault_in}
+use Rattle.rw_doc.specs.Pieces.{fault_in}
 use Rattle.rw_docpattern.specs.Terms.{is_within_limits}
 use Rattle.rw_docpattern.proofs.Checked.{none_is, passed}
-use Rattle.rw_docpattern.proofs.Listed.{some_all, some_long}
+use Rattle.rw_doc.proofs.Listed.{some_all, some_long}
 
 -- a number that a name has is one of an attribute
 named_within : (attributes : List AttrDef) (written : WrittenEntry) (entry : Entry) → entry_named attributes written ≡ Some entry → entry.attr.0 < length attributes

@@ -6,8 +6,8 @@ use Rattle.rw_pattern.specs.PatternLists.{PatternLists, holders_in}
 use Rattle.rw_doc.specs.declared.end.ReadDocEnd.{ReadDocEnd}
 use Rattle.rw_doc.specs.declared.end.ReadDocEnd.TheVariants.{Refused, OutOfMemory}
 use Rattle.rw_docpattern.specs.declared.bare.Bare.{Bare}
-use Rattle.rw_docpattern.specs.declared.piece.Piece.{Piece}
-use Rattle.rw_docpattern.specs.Pieces.{fault_in}
+use Rattle.rw_doc.specs.declared.piece.Piece.{Piece}
+use Rattle.rw_doc.specs.Pieces.{fault_in}
 
 -- the lists of a pattern with these sizes and rows, and no entries
 abbrev pub lists_of : Signature → List ℕ → List (List ℕ) → PatternLists

@@ -13,10 +13,10 @@ use Rattle.rw_doc.specs.Chain.{and_then, all_some, some_or, checked}
 use Rattle.rw_docpattern.specs.declared.draft.Draft as code
 use Rattle.rw_docpattern.specs.declared.entry.Entry.{Entry}
 use Rattle.rw_docpattern.specs.declared.entry.WrittenEntry.{WrittenEntry}
-use Rattle.rw_docpattern.specs.declared.piece.Piece.{Piece}
+use Rattle.rw_doc.specs.declared.piece.Piece.{Piece}
 use Rattle.rw_docpattern.specs.Forms.{PatternForm, form_with}
 use Rattle.rw_docpattern.specs.Patterns.{PatternRead, bare_lists, cell_of, entries_named, fits_atom, is_on_part, read_entries}
-use Rattle.rw_docpattern.specs.Pieces.{fault_in}
+use Rattle.rw_doc.specs.Pieces.{fault_in}
 use Rattle.rw_docpattern.specs.Terms.{is_within_limits}
 use Rattle.rw_docpattern.specs.Variables.{kinds_of, variables_of}
 

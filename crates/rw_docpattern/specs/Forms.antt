@@ -5,7 +5,7 @@ use Rattle.serde_json.specs.Find.{as_str, get}
 use Rattle.rw_doc.specs.Chain.{all_some}
 use Rattle.rw_doc.specs.Json.{as_list, has_only}
 use Rattle.rw_docpattern.specs.declared.entry.WrittenEntry.{WrittenEntry}
-use Rattle.rw_docpattern.specs.Numbers.{as_number, as_numbers, as_number_lists}
+use Rattle.rw_doc.specs.Numbers.{as_number, as_numbers, as_number_lists}
 use Rattle.rw_docpattern.specs.Terms.{term_of}
 
 -- an entry is a list of the name of an attribute, a part and a term

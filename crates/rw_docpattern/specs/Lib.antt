@@ -3,12 +3,10 @@ pub mod Drafts
 pub mod Forms
 pub mod Maps
 pub mod Numbering
-pub mod Numbers
 pub mod Objects
 pub mod Operations
 pub mod Parts
 pub mod Patterns
-pub mod Pieces
 pub mod Reads
 pub mod Rights
 pub mod Sets

@@ -8,9 +8,9 @@ use Rattle.rw_pattern.specs.MapFaults.{map_fault}
 use Rattle.rw_pattern.specs.PatternLists.{PatternLists}
 use Rattle.rw_doc.specs.declared.fault.DocFault.{DocFault}
 use Rattle.rw_doc.specs.Chain.{and_then, some_or, checked, unfaulted}
-use Rattle.rw_docpattern.specs.declared.piece.Piece.{Piece}
-use Rattle.rw_docpattern.specs.Numbers.{as_number_lists}
-use Rattle.rw_docpattern.specs.Pieces.{fault_in}
+use Rattle.rw_doc.specs.declared.piece.Piece.{Piece}
+use Rattle.rw_doc.specs.Numbers.{as_number_lists}
+use Rattle.rw_doc.specs.Pieces.{fault_in}
 
 -- the code of what is wrong with a map
 abbrev pub code_of : MapFault → ℕ

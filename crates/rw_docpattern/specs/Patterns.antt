@@ -18,11 +18,11 @@ use Rattle.rw_doc.specs.declared.fault.DocFault.{DocFault}
 use Rattle.rw_doc.specs.Chain.{and_then, all_some, some_or, checked}
 use Rattle.rw_docpattern.specs.declared.entry.Entry.{Entry}
 use Rattle.rw_docpattern.specs.declared.entry.WrittenEntry.{WrittenEntry}
-use Rattle.rw_docpattern.specs.declared.piece.Piece.{Piece}
+use Rattle.rw_doc.specs.declared.piece.Piece.{Piece}
 use Rattle.rw_docpattern.specs.declared.term.WrittenTerm.{WrittenTerm, fold-WrittenTerm}
 use Rattle.rw_docpattern.specs.declared.term.WrittenTerm.TheOpen.{WrittenTerm-F}
 use Rattle.rw_docpattern.specs.Forms.{PatternForm, form_with, bare_keys, pattern_keys}
-use Rattle.rw_docpattern.specs.Pieces.{fault_in}
+use Rattle.rw_doc.specs.Pieces.{fault_in}
 use Rattle.rw_docpattern.specs.Terms.{is_within_limits}
 use Rattle.rw_docpattern.specs.Variables.{kinds_of, number_in, variables_of}
 

@@ -6,9 +6,9 @@ use Rattle.rw_terms.specs.OpTables.{OpEntry}
 use Rattle.rw_doc.specs.declared.fault.DocFault.{DocFault}
 use Rattle.rw_doc.specs.Chain.{checked}
 use Rattle.rw_docpattern.specs.declared.entry.Entry.{Entry}
-use Rattle.rw_docpattern.specs.declared.piece.Piece.{Piece}
+use Rattle.rw_doc.specs.declared.piece.Piece.{Piece}
 use Rattle.rw_docpattern.specs.Patterns.{PatternRead}
-use Rattle.rw_docpattern.specs.Pieces.{fault_in}
+use Rattle.rw_doc.specs.Pieces.{fault_in}
 use Rattle.rw_docpattern.specs.Sets.{RightRead, are_sets, sets_of}
 
 -- the pattern, and the entries as sets

@@ -14,12 +14,12 @@ use Rattle.rw_rule.specs.declared.set.SetCell.{SetCell}
 use Rattle.rw_doc.specs.declared.fault.DocFault.{DocFault}
 use Rattle.rw_doc.specs.Chain.{and_then, checked}
 use Rattle.rw_docpattern.specs.declared.entry.Entry.{Entry}
-use Rattle.rw_docpattern.specs.declared.piece.Piece.{Piece}
+use Rattle.rw_doc.specs.declared.piece.Piece.{Piece}
 use Rattle.rw_docpattern.specs.declared.term.WrittenTerm.{WrittenTerm, fold-WrittenTerm}
 use Rattle.rw_docpattern.specs.declared.term.WrittenTerm.TheOpen.{WrittenTerm-F}
 use Rattle.rw_docpattern.specs.Forms.{PatternForm, pattern_keys}
 use Rattle.rw_docpattern.specs.Patterns.{PatternRead, bare_lists, read_entries, read_form}
-use Rattle.rw_docpattern.specs.Pieces.{fault_in}
+use Rattle.rw_doc.specs.Pieces.{fault_in}
 use Rattle.rw_docpattern.specs.Variables.{number_in}
 
 -- the number of the operation with this name; a name of none has the number after the last, which is no operation's

@@ -4,8 +4,7 @@ ghost use Rattle.std.specs.Prelude.{map};
 ghost use Rattle.rw_schema.specs.Presentation.{signature_of};
 ghost use Rattle.rw_docpattern.specs.Bare.{FindsBare, lists_of};
 
-use crate::Piece;
-use rw_doc::ReadDocEnd;
+use rw_doc::{Piece, ReadDocEnd};
 use rw_pattern::{Pattern, PatternFault, PatternParts};
 use rw_schema::Schema;
 use std::alloc::Global;

@@ -10,11 +10,11 @@ ghost use Rattle.rw_docpattern.specs.Drafts.{IsSound, draft_seen};
 ghost use Rattle.rw_docpattern.specs.Parts.{lists_of_parts};
 ghost use Rattle.rw_docpattern.specs.Reads.{pattern_read};
 
+use crate::PatternRead;
 use crate::draft::Draft;
 use crate::variables::{Variables, variables_of};
 use crate::wants::cells_of;
-use crate::{PatternRead, Piece};
-use rw_doc::ReadDocEnd;
+use rw_doc::{Piece, ReadDocEnd};
 use rw_pattern::{Pattern, PatternCell, PatternFault, PatternParts};
 use rw_schema::{ArrowId, Kind, OutOfMemory, Schema};
 use std::alloc::Global;

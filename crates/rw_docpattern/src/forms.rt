@@ -5,13 +5,12 @@ ghost use Rattle.serde_json.specs.Find.{get};
 ghost use Rattle.serde_json.specs.View.{view};
 ghost use Rattle.rw_doc.specs.Chain.{all_some};
 ghost use Rattle.rw_docpattern.specs.Forms as spec;
-ghost use Rattle.rw_docpattern.specs.Numbers.{as_number_lists as number_lists_of, as_numbers as numbers_of};
+ghost use Rattle.rw_doc.specs.Numbers.{as_number_lists as number_lists_of, as_numbers as numbers_of};
 ghost use Rattle.rw_docpattern.specs.Views.{form_of};
 
 use crate::WrittenEntry;
-use crate::numbers::{as_number, as_number_lists, as_numbers};
 use crate::terms::term_of;
-use rw_doc::{has_only, items_of};
+use rw_doc::{as_number, as_number_lists, as_numbers, has_only, items_of};
 use rw_schema::{OutOfMemory, Text};
 use serde_json::Value;
 use std::alloc::Global;

@@ -8,11 +8,9 @@ ghost use Rattle.rw_pattern.specs.PatternFaults.{IsPatternOf};
 ghost use Rattle.rw_doc.specs.Chain.{unfaulted};
 ghost use Rattle.rw_doc.specs.Gives.{Gives};
 ghost use Rattle.rw_docpattern.specs.Maps as spec;
-ghost use Rattle.rw_docpattern.specs.Pieces.{fault_in};
+ghost use Rattle.rw_doc.specs.Pieces.{fault_in};
 
-use crate::Piece;
-use crate::numbers::as_number_lists;
-use rw_doc::ReadDocEnd;
+use rw_doc::{Piece, ReadDocEnd, as_number_lists};
 use rw_pattern::{MapFault, Pattern, check_map};
 use rw_schema::{PartMap, Schema};
 use serde_json::Value;

@@ -8,10 +8,9 @@ ghost use Rattle.rw_doc.specs.Gives.{Gives};
 ghost use Rattle.rw_docpattern.specs.Patterns as spec;
 ghost use Rattle.rw_docpattern.specs.Reads.{pattern_read};
 
-use crate::Piece;
 use crate::build::with_entries;
 use crate::draft::read_draft;
-use rw_doc::ReadDocEnd;
+use rw_doc::{Piece, ReadDocEnd};
 use rw_pattern::Pattern;
 use rw_schema::{Kind, Names, Schema};
 use serde_json::Value;

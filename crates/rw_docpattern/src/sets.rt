@@ -11,11 +11,11 @@ ghost use Rattle.rw_docpattern.specs.Rights.{right_with};
 ghost use Rattle.rw_docpattern.specs.Sets as spec;
 ghost use Rattle.rw_docpattern.specs.Reads.{pattern_read, right_read};
 
+use crate::PatternRead;
 use crate::draft::{Draft, read_draft};
 use crate::fits::are_sets;
 use crate::numbered::sets_of;
-use crate::{PatternRead, Piece};
-use rw_doc::ReadDocEnd;
+use rw_doc::{Piece, ReadDocEnd};
 use rw_pattern::Pattern;
 use rw_rule::SetCell;
 use rw_schema::Schema;

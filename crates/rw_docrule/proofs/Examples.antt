@@ -1,5 +1,5 @@
 -- Documents and rules, and what they say.
-use Rattle.std.proofs.Common.{◌≡◌, ℕ, Bool, true, false, Some, Ok, Err, List, [], ◌∷◌, codes, refl}
+use Rattle.std.proofs.Common.{◌≡◌, ℕ, Bool, true, false, Some, None, Ok, Err, List, [], ◌∷◌, codes, refl}
 use Rattle.serde_json.specs.Data.{Data, number, unsigned, string, array, object, no_members, member}
 use Rattle.serde_json.specs.View.{items_of}
 use Rattle.rw_schema.specs.declared.section.Section.TheVariants.{Whole, Rules, Watches}
@@ -77,6 +77,8 @@ graph_lists = record {
     name = codes "edge";
     goal = record { left = graph_pattern (2 ∷ 1 ∷ []) ((0 ∷ []) ∷ (1 ∷ []) ∷ []); monic = false ∷ false ∷ []; conditions = []; kinds = [] };
   } ∷ [];
+  span = None;
+  cospan = None;
 }
 
 -- so many vertices, as lists

@@ -12,6 +12,11 @@ pub ends_first : {X Y A B : Type 0} (first : X → A) (both : Y → B) (end : Re
 ends_first first both (Refused fault) reading later gives = rw gives refl
 ends_first first both OutOfMemory reading later gives = tt
 
+-- where both of two readings give something, what is read of both is what follows them
+pub both_read : {A B C Z : Type 0} (model : Z → C) (end : Result Z ReadDocEnd) (first : Result A DocFault) (second : A → Result B DocFault) (later : A → B → Result C DocFault)
+    (x : A) (y : B) → first ≡ Ok x → second x ≡ Ok y → Gives model end (later x y) → Gives model end (and_then first (λ x. and_then (second x) (later x)))
+both_read model end first second later x y is_first is_second gives = rw (is_first, is_second) gives
+
 -- where a test lets nothing pass, it lets nothing else pass either
 pub ends_checked : {X Y A B : Type 0} (one : X → A) (other : Y → B) (end : ReadDocEnd) (fault : DocFault) (test : Bool) (x : A) (y : B)
     → Gives one (Err end) (checked fault test (Ok x)) → Gives other (Err end) (checked fault test (Ok y))

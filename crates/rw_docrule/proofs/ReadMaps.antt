@@ -9,10 +9,10 @@ use Rattle.rw_pattern.specs.PatternLists.{PatternLists}
 use Rattle.rw_rule.specs.RuleFaults.{is_map}
 use Rattle.rw_doc.specs.Chain.{some_or, unfaulted}
 use Rattle.rw_doc.proofs.Chains.{chain, checked_then}
-use Rattle.rw_docpattern.specs.declared.piece.Piece.{Piece}
+use Rattle.rw_doc.specs.declared.piece.Piece.{Piece}
 use Rattle.rw_docpattern.specs.Maps.{code_of, read_map}
-use Rattle.rw_docpattern.specs.Numbers.{as_number_lists}
-use Rattle.rw_docpattern.specs.Pieces.{fault_in}
+use Rattle.rw_doc.specs.Numbers.{as_number_lists}
+use Rattle.rw_doc.specs.Pieces.{fault_in}
 
 -- one list of images for each object, which are a map of patterns
 pub record IsReadMap (C : Signature) (from to : PatternLists) (images : List (List ℕ)) : Type 0 where

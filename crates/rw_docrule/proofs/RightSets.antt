@@ -13,11 +13,11 @@ use Rattle.rw_rule.specs.Sets.{fits_term, is_closed, is_on_part, set_again}
 use Rattle.rw_doc.specs.Chain.{some_or}
 use Rattle.rw_doc.proofs.Chains.{chain, checked_then}
 use Rattle.rw_docpattern.specs.declared.entry.Entry.{Entry}
-use Rattle.rw_docpattern.specs.declared.piece.Piece.{Piece}
+use Rattle.rw_doc.specs.declared.piece.Piece.{Piece}
 use Rattle.rw_docpattern.specs.Forms.{PatternForm, pattern_keys}
 use Rattle.rw_docpattern.specs.Patterns.{PatternRead, are_parts_there, bare_lists, entries_named, fits_atom, is_form_within, read_entries, read_form}
 use Rattle.rw_docpattern.specs.Patterns as patterns
-use Rattle.rw_docpattern.specs.Pieces.{fault_in}
+use Rattle.rw_doc.specs.Pieces.{fault_in}
 use Rattle.rw_docpattern.specs.Sets.{RightRead, are_sets, fits_left, read_right, set_of, sets_of}
 use Rattle.rw_docrule.proofs.Checked.{none_is, passed}
 

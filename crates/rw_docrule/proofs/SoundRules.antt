@@ -14,7 +14,7 @@ use Rattle.rw_doc.proofs.Chains.{chain}
 use Rattle.rw_doc.proofs.Faultless.{none_unless}
 use Rattle.rw_docpattern.specs.Maps.{read_map}
 use Rattle.rw_docpattern.specs.Patterns.{read_bare_pattern, read_pattern}
-use Rattle.rw_docpattern.specs.Pieces.{fault_in}
+use Rattle.rw_doc.specs.Pieces.{fault_in}
 use Rattle.rw_docpattern.specs.Sets.{read_right}
 use Rattle.rw_docrule.specs.Heads.{RuleHead, RuleMembers}
 use Rattle.rw_docrule.specs.Rules.{Sides, read_l, read_r, read_sides, rule_piece, rule_with}

@@ -1,6 +1,6 @@
 -- The model of a document, or its first fault, over the JSON value that its bytes are. The sections are read in the order in
 -- which they stand here.
-use Rattle.std.specs.Prelude.{◌==◌, ℕ, Bool, false, not, ◌&&◌, ◌||◌, is_some, codes, map, List, [], ◌∷◌, Option, Some, None, Result, Ok, Err, if◌then◌else◌}
+use Rattle.std.specs.Prelude.{◌==◌, ℕ, Bool, false, not, ◌&&◌, is_some, codes, map, List, [], ◌∷◌, Option, Some, None, Result, Ok, Err, if◌then◌else◌}
 use Rattle.std.specs.List.{list_all}
 use Rattle.std.specs.Str.{is_utf8}
 use Rattle.serde_json.specs.Data.{Data}
@@ -12,12 +12,14 @@ use Rattle.rw_schema.specs.Signature.{Signature}
 use Rattle.rw_table.specs.Tabled.{Tabled}
 use Rattle.rw_terms.specs.OpTables.{OpEntry}
 use Rattle.rw_rule.specs.PlainRules.{is_plain}
+use Rattle.rw_rule.specs.RuleLists.{WatchLists}
 use Rattle.rw_doc.specs.declared.fault.DocFault.{DocFault}
 use Rattle.rw_doc.specs.Chain.{and_then, some_or, checked}
 use Rattle.rw_doc.specs.Faults.{fault_of}
 use Rattle.rw_doc.specs.Instances.{read_instance, empty_instance}
 use Rattle.rw_doc.specs.Json.{as_count, has_only}
 use Rattle.rw_doc.specs.Schemas.{read_schema}
+use Rattle.rw_docspan.specs.Spans.{SpanLists, CospanLists, read_span, read_cospan}
 use Rattle.rw_docrule.specs.Models.{DocumentLists}
 use Rattle.rw_docrule.specs.Rules.{RuleRead, names_of_rules, read_rules}
 use Rattle.rw_docrule.specs.Watches.{read_watches}
@@ -38,27 +40,46 @@ abbrev pub instance_or_none : Signature → Option Data → Result Tabled DocFau
 instance_or_none C None = Ok (empty_instance C)
 instance_or_none C (Some value) = read_instance C false value
 
--- ---- rules and watches, and what is not built yet
+-- ---- spans and cospans
+
+-- the span that is written, or none
+abbrev pub span_or_none : Signature → Option Data → Result (Option SpanLists) DocFault
+span_or_none C None = Ok None
+span_or_none C (Some value) = and_then (read_span C value) (λ span. Ok (Some span))
+
+-- the cospan that is written, or none
+abbrev pub cospan_or_none : Signature → Option Data → Result (Option CospanLists) DocFault
+cospan_or_none C None = Ok None
+cospan_or_none C (Some value) = and_then (read_cospan C value) (λ cospan. Ok (Some cospan))
+
+-- ---- rules, watches, spans and cospans, and what is not built yet
 
 -- the document has no fault, and something in it is not built yet
 abbrev pub not_built : DocFault
 not_built = fault_of 16 Whole
 
--- one of the sections is there that are not read yet
+-- a section is there that is not read yet
 abbrev pub has_more : Data → Bool
-has_more value = is_some (get (codes "schedule") value) || is_some (get (codes "span") value) || is_some (get (codes "cospan") value)
+has_more value = is_some (get (codes "schedule") value)
 
 -- steps of the rule are built so far
 abbrev pub is_built : RuleRead → Bool
 is_built read = not read.has_conditions && is_plain read.rule
 
--- the document's rules and watches
+-- the document with these rules and watches, and with the span and the cospan that are written
+abbrev pub read_spans : Presentation → Tabled → List RuleRead → List WatchLists → Data → Result DocumentLists DocFault
+read_spans schema table rules watches value =
+    and_then (span_or_none (signature_of schema) (get (codes "span") value)) (λ span.
+    and_then (cospan_or_none (signature_of schema) (get (codes "cospan") value)) (λ cospan.
+    checked not_built (not (has_more value) && list_all is_built rules)
+    (Ok (record { schema = schema; table = table; rules = map (λ (read : RuleRead). read.rule) rules; watches = watches; span = span; cospan = cospan }))))
+
+-- the document's rules, watches, span and cospan
 abbrev pub read_others : List OpEntry → Presentation → Tabled → Data → Result DocumentLists DocFault
 read_others ops schema table value =
     and_then (read_rules schema ops (get (codes "rules") value)) (λ rules.
     and_then (read_watches schema (names_of_rules rules) (get (codes "watches") value)) (λ watches.
-    checked not_built (not (has_more value) && list_all is_built rules)
-    (Ok (record { schema = schema; table = table; rules = map (λ (read : RuleRead). read.rule) rules; watches = watches }))))
+    read_spans schema table rules watches value))
 
 -- ---- the whole
 

@@ -10,9 +10,9 @@ use Rattle.rw_rule.specs.declared.kind.RuleKind.TheVariants as kinds
 use Rattle.rw_doc.specs.declared.fault.DocFault.{DocFault}
 use Rattle.rw_doc.specs.Chain.{and_then, some_or, checked}
 use Rattle.rw_doc.specs.Json.{as_list, has_only}
-use Rattle.rw_docpattern.specs.declared.piece.Piece.{Piece}
+use Rattle.rw_doc.specs.declared.piece.Piece.{Piece}
 use Rattle.rw_docpattern.specs.Objects.{marks_named, texts_or_none}
-use Rattle.rw_docpattern.specs.Pieces.{fault_in}
+use Rattle.rw_doc.specs.Pieces.{fault_in}
 
 -- ---- rules
 

@@ -14,10 +14,10 @@ use Rattle.rw_rule.specs.Sets.{value_missing}
 use Rattle.rw_doc.specs.declared.fault.DocFault.{DocFault}
 use Rattle.rw_doc.specs.Chain.{and_then, each_after, some_or, checked}
 use Rattle.rw_doc.specs.Schemas.{read_list_or_none}
-use Rattle.rw_docpattern.specs.declared.piece.Piece.{Piece}
+use Rattle.rw_doc.specs.declared.piece.Piece.{Piece}
 use Rattle.rw_docpattern.specs.Maps.{read_map}
 use Rattle.rw_docpattern.specs.Patterns.{PatternRead, read_bare_pattern, read_pattern}
-use Rattle.rw_docpattern.specs.Pieces.{fault_in}
+use Rattle.rw_doc.specs.Pieces.{fault_in}
 use Rattle.rw_docpattern.specs.Sets.{RightRead, read_right}
 use Rattle.rw_docrule.specs.Heads.{RuleHead, RuleMembers, read_rule_head, rule_members}
 

@@ -7,9 +7,9 @@ use Rattle.rw_rule.specs.RuleLists.{WatchLists}
 use Rattle.rw_doc.specs.declared.fault.DocFault.{DocFault}
 use Rattle.rw_doc.specs.Chain.{and_then, each_after, some_or}
 use Rattle.rw_doc.specs.Schemas.{read_list_or_none}
-use Rattle.rw_docpattern.specs.declared.piece.Piece.{Piece}
+use Rattle.rw_doc.specs.declared.piece.Piece.{Piece}
 use Rattle.rw_docpattern.specs.Patterns.{read_pattern}
-use Rattle.rw_docpattern.specs.Pieces.{fault_in}
+use Rattle.rw_doc.specs.Pieces.{fault_in}
 use Rattle.rw_docrule.specs.Heads.{WatchMembers, read_watch_head, watch_members}
 
 -- a piece of a watch

@@ -8,14 +8,14 @@ ghost use Rattle.serde_json.specs.View.{view};
 ghost use Rattle.rw_doc.specs.Chain.{some_or};
 ghost use Rattle.rw_doc.specs.Gives.{Gives};
 ghost use Rattle.rw_docpattern.specs.Objects.{marks_named as marks_of_names};
-ghost use Rattle.rw_docpattern.specs.Pieces.{fault_in};
+ghost use Rattle.rw_doc.specs.Pieces.{fault_in};
 ghost use Rattle.rw_docrule.specs.Heads as spec;
 ghost use Rattle.rw_docrule.specs.Members.{members_of_rule, members_of_watch};
 ghost use Rattle.rw_docrule.specs.Reads.{form_of_rule, form_of_watch, head_of_rule, head_of_watch};
 
 use crate::members::{RuleMembers, WatchMembers};
-use rw_doc::{ReadDocEnd, has_name_length, items_of};
-use rw_docpattern::{Piece, marks_named, texts_or_none};
+use rw_doc::{Piece, ReadDocEnd, has_name_length, items_of};
+use rw_docpattern::{marks_named, texts_or_none};
 use rw_rule::RuleKind;
 use rw_schema::{Names, OutOfMemory, Schema, Text};
 use serde_json::Value;

@@ -1,4 +1,4 @@
-//! Documents: schemas, instances, rules and watches that are read from JSON.
+//! Documents: schemas, instances, rules, watches, spans and cospans that are read from JSON.
 #![tactic(auto)]
 
 mod build;

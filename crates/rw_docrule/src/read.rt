@@ -1,27 +1,34 @@
 //! Documents from their bytes.
 
-ghost use Rattle.std.specs.Prelude.{◌≡◌, ◌<◌, ◌^◌, IfOk, length, option_map};
+ghost use Rattle.std.specs.Prelude.{◌≡◌, ◌<◌, ◌≤◌, ◌^◌, All, IfOk, IfSome, length, map, option_map};
 ghost use Rattle.serde_json.specs.Find.{get};
 ghost use Rattle.serde_json.specs.Read.{read};
 ghost use Rattle.serde_json.specs.View.{view};
 ghost use Rattle.rw_schema.specs.declared.section.Section.TheVariants.{Whole};
 ghost use Rattle.rw_schema.specs.Presentation.{signature_of};
 ghost use Rattle.rw_terms.specs.OpEntries.{entries};
+ghost use Rattle.rw_rule.specs.RuleParts.{lists_of_watch, rule_of_parts};
 ghost use Rattle.rw_table.specs.Tabled.{IsOver};
 ghost use Rattle.rw_doc.specs.Chain.{some_or};
 ghost use Rattle.rw_doc.specs.Faults.{fault_of};
 ghost use Rattle.rw_doc.specs.Gives.{Gives};
 ghost use Rattle.rw_doc.specs.declared.end.ReadDocEnd.TheVariants.{Refused};
+ghost use Rattle.rw_docspan.specs.Spans.{IsCospanOver, IsSpanOver};
+ghost use Rattle.rw_docspan.specs.Views.{cospan_lists, span_lists};
 ghost use Rattle.rw_docrule.specs.Documents as spec;
+ghost use Rattle.rw_docrule.specs.Known.{IsRuleUnlessCyclic, IsWatchRead};
 ghost use Rattle.rw_docrule.specs.Models.{IsSound, document_lists};
+ghost use Rattle.rw_docrule.specs.Reads.{rule_read};
 
 use crate::Document;
 use crate::build::{build_rules, not_built};
-use crate::rules::read_rules;
+use crate::rules::{RuleRead, read_rules};
 use crate::watches::read_watches;
 use rw_doc::{
     ReadDocEnd, count_of, empty_instance, has_only, read_instance, read_schema, refused_of,
 };
+use rw_docspan::{Cospan, Span, read_cospan, read_span};
+use rw_rule::Watch;
 use rw_schema::{Names, Schema, Section};
 use rw_table::Table;
 use rw_terms::OpTable;
@@ -86,14 +93,78 @@ fn instance_or_none(
     }
 }
 
-/// Whether one of the sections is there that are not read yet.
+/// The span that is written, or none.
+fn span_or_none(
+    alloc: Global,
+    schema: &Schema,
+    value: Option<&Value>,
+) -> Result<Option<Span>, ReadDocEnd>
+    ensures gives { Gives (option_map span_lists) result (spec.span_or_none (signature_of schema.now) (option_map (λ value. view value.now) value.entry)) }
+    ensures over { IfOk result (λ span. IfSome (option_map span_lists span) (IsSpanOver (signature_of schema.now))) }
+{
+    match value {
+        Some(value) => Ok(Some(read_span(alloc, schema, value)?)),
+        None => Ok(None),
+    }
+}
+
+/// The cospan that is written, or none.
+fn cospan_or_none(
+    alloc: Global,
+    schema: &Schema,
+    value: Option<&Value>,
+) -> Result<Option<Cospan>, ReadDocEnd>
+    ensures gives { Gives (option_map cospan_lists) result (spec.cospan_or_none (signature_of schema.now) (option_map (λ value. view value.now) value.entry)) }
+    ensures over { IfOk result (λ cospan. IfSome (option_map cospan_lists cospan) (IsCospanOver (signature_of schema.now))) }
+{
+    match value {
+        Some(value) => Ok(Some(read_cospan(alloc, schema, value)?)),
+        None => Ok(None),
+    }
+}
+
+/// Whether a section is there that is not read yet.
 fn has_more(value: &Value) -> bool
     ensures { result ≡ spec.has_more (view value.now) }
 {
-    value.get("schedule").is_some() || value.get("span").is_some() || value.get("cospan").is_some()
+    value.get("schedule").is_some()
 }
 
-/// The document of the schema, the instance, and the rules and watches that are written.
+/// The document with these rules and watches, and with the span and the cospan that are written.
+fn read_spans(
+    alloc: Global,
+    ops: &OpTable,
+    schema: Schema,
+    table: Table,
+    rules: Vec<RuleRead>,
+    watches: Vec<Watch>,
+    value: &Value,
+) -> Result<Document, ReadDocEnd>
+    requires over { IsOver schema table }
+    requires rules { All (λ read. IsRuleUnlessCyclic (signature_of schema) (length (entries ops.now)) (rule_of_parts read.parts)) rules.items }
+    requires few_rules { length rules.items ≤ 256 }
+    requires watches { All (λ watch. IsWatchRead (signature_of schema) (lists_of_watch watch)) watches.items }
+    requires few_watches { length watches.items ≤ 64 }
+    ensures gives { Gives document_lists result (spec.read_spans schema table (map rule_read rules.items) (map lists_of_watch watches.items) (view value.now)) }
+    ensures sound { IfOk result (λ document. IsSound (length (entries ops.now)) (document_lists document)) }
+{
+    let span = span_or_none(alloc, &schema, value.get("span"))?;
+    let cospan = cospan_or_none(alloc, &schema, value.get("cospan"))?;
+    if has_more(value) {
+        return Err(not_built());
+    }
+    let rules = build_rules(alloc, &schema, ops, rules)?;
+    Ok(Document {
+        schema,
+        table,
+        rules,
+        watches,
+        span,
+        cospan,
+    })
+}
+
+/// The document of the schema, the instance, and the rules, watches, span and cospan that are written.
 fn read_others(
     alloc: Global,
     ops: &OpTable,
@@ -109,16 +180,7 @@ fn read_others(
     let mut names = Names::new(alloc);
     let rules = read_rules(alloc, &schema, ops, &mut names, value.get("rules"))?;
     let watches = read_watches(alloc, &schema, &mut names, value.get("watches"))?;
-    if has_more(value) {
-        return Err(not_built());
-    }
-    let rules = build_rules(alloc, &schema, ops, rules)?;
-    Ok(Document {
-        schema,
-        table,
-        rules,
-        watches,
-    })
+    read_spans(alloc, ops, schema, table, rules, watches, value)
 }
 
 /// The document that a JSON value is.
@@ -165,8 +227,8 @@ fn read_json(alloc: Global, bytes: &[u8]) -> Result<Value, ReadDocEnd>
 }
 
 /// The document that the bytes are, or its first fault. The sections are read in the order schema, instance, rules,
-/// watches. The rules' terms have operations of the table, by their names in the document and by their numbers in the
-/// rules.
+/// watches, span, cospan. The rules' terms have operations of the table, by their names in the document and by their
+/// numbers in the rules.
 ///
 /// docs/FORMAT.md lists the faults. What is not built yet is code 16, where the document has no other fault: a section
 /// that is not read, a rule with conditions, of another kind than double pushout, whose map to the right is not

@@ -10,7 +10,7 @@ ghost use Rattle.rw_rule.specs.RuleFaults.{AreOver};
 ghost use Rattle.rw_rule.specs.RuleParts.{rule_of_parts};
 ghost use Rattle.rw_doc.specs.Chain.{and_then, each_after, some_or};
 ghost use Rattle.rw_doc.specs.Gives.{Gives};
-ghost use Rattle.rw_docpattern.specs.Pieces.{fault_in};
+ghost use Rattle.rw_doc.specs.Pieces.{fault_in};
 ghost use Rattle.rw_docrule.specs.Heads.{rule_members as members_in};
 ghost use Rattle.rw_docrule.specs.Known.{AreSidesOver, IsRuleUnlessCyclic};
 ghost use Rattle.rw_docrule.specs.Members.{members_of_rule};
@@ -19,9 +19,9 @@ ghost use Rattle.rw_docrule.specs.Rules as spec;
 
 use crate::heads::{RuleHead, read_rule_head};
 use crate::members::{RuleMembers, rule_members};
-use rw_doc::{ReadDocEnd, read_list_or_none};
+use rw_doc::{Piece, ReadDocEnd, read_list_or_none};
 use rw_docpattern::{
-    PatternRead, Piece, RightRead, read_bare_pattern, read_map, read_pattern, read_right,
+    PatternRead, RightRead, read_bare_pattern, read_map, read_pattern, read_right,
 };
 use rw_pattern::Pattern;
 use rw_rule::{Goal, RuleKind, RuleParts, first_value_missing, is_one_to_one};

@@ -9,7 +9,6 @@ pub mod PartNames
 pub mod PatternInstance
 pub mod Places
 pub mod SameAtoms
-pub mod Sequences
 pub mod Shapes
 pub mod Tuples
 pub mod Valuations

@@ -14,7 +14,7 @@ use Rattle.rw_pattern.specs.MapFaults.{image_of, has_images, has_map_shape, imag
 use Rattle.rw_pattern.specs.PatternLists.{PatternLists, size_of, instance_of_pattern}
 use Rattle.rw_pattern.proofs.PartNames.{part_below, has_part}
 use Rattle.rw_pattern.proofs.Places.{parts_within}
-use Rattle.rw_pattern.proofs.Sequences.{all_in_at}
+use Rattle.rw_spec.proofs.Sequences.{all_in_at}
 use Rattle.rw_pattern.proofs.Shapes.{IsPattern, row_long}
 
 -- there are at least as many lists as objects

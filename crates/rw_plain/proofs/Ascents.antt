@@ -7,7 +7,7 @@ use Rattle.std.proofs.lemmas.List.Elements.{Contains-append_cases}
 use Rattle.std.proofs.lemmas.List.FromFn.{length-range_with_len, get_or-range_with_len}
 use Rattle.rw_table.specs.TableFaults.{ascends}
 use Rattle.rw_table.proofs.Ascending.{ascends_rest, ascends_apart}
-use Rattle.rw_pattern.proofs.Sequences.{contains_here, contains_later, contained_in_filter}
+use Rattle.rw_spec.proofs.Sequences.{contains_here, contains_later, contained_in_filter}
 
 -- numbers ascend behind one that is below each of them
 ascends_behind : (x : ℕ) (xs : List ℕ) → ((y : ℕ) → Contains xs y → x < y) → ascends xs ≡ true → ascends (x ∷ xs) ≡ true

@@ -5,7 +5,6 @@ pub mod CellKinds
 pub mod Comatch
 pub mod Equations
 pub mod Firsts
-pub mod Listed
 pub mod Mapped
 pub mod NamesAfter
 pub mod NewNames

@@ -14,7 +14,7 @@ use Rattle.rw_table.specs.TableFaults.{ascends, are_names, table_fault}
 use Rattle.rw_table.specs.declared.fault.TableFault.{TableFault}
 use Rattle.rw_table.specs.declared.fault.TableFault.TheVariants.{Names}
 use Rattle.rw_table.proofs.Checked.{AreChecked, checked_known, shape_known}
-use Rattle.rw_pattern.proofs.Sequences.{contains_filter, contained_in_filter, list_all_contained, list_all_from_contained}
+use Rattle.rw_spec.proofs.Sequences.{contains_filter, contained_in_filter, list_all_contained, list_all_from_contained}
 use Rattle.rw_rule.specs.RuleLists.{RuleLists}
 use Rattle.rw_plain.specs.PlainStep.{is_removed, new_parts, next_after, names_after}
 use Rattle.rw_plain.proofs.Ascents.{ascends_filter, ascends_append, ascends_range, range_bounds}

@@ -8,7 +8,7 @@ use Rattle.rw_spec.specs.Distinct.{AreDistinct}
 use Rattle.rw_table.proofs.Ascending.{ascends_distinct}
 use Rattle.rw_pattern.specs.PatternLists.{size_of}
 use Rattle.rw_pattern.proofs.PartNames.{part_below}
-use Rattle.rw_pattern.proofs.Sequences.{contained_in_filter}
+use Rattle.rw_spec.proofs.Sequences.{contained_in_filter}
 use Rattle.rw_rule.specs.RuleLists.{RuleLists}
 use Rattle.rw_rule.specs.Images.{is_image, parts_of}
 use Rattle.rw_plain.specs.PlainStep.{new_parts, new_before}

@@ -11,7 +11,7 @@ use Rattle.rw_pattern.specs.PatternLists.{PatternLists, size_of, place_of, map_o
 use Rattle.rw_pattern.specs.Tuples.{tuples}
 use Rattle.rw_pattern.proofs.Naturality.{length_candidates}
 use Rattle.rw_pattern.proofs.Places.{parts_within}
-use Rattle.rw_pattern.proofs.Sequences.{contained_in_filter}
+use Rattle.rw_spec.proofs.Sequences.{contained_in_filter}
 use Rattle.rw_pattern.proofs.Tuples.{IsTuple, is_tuple}
 
 -- they are the images of the parts

@@ -9,7 +9,7 @@ use Rattle.rw_spec.specs.Natural.{IsNatural, IsInjectiveOn}
 use Rattle.rw_table.specs.TableFaults.{table_fault}
 use Rattle.rw_pattern.specs.PatternLists.{size_of, instance_of_pattern, map_of_tuple}
 use Rattle.rw_pattern.proofs.PartNames.{has_part}
-use Rattle.rw_pattern.proofs.Sequences.{all_in_at}
+use Rattle.rw_spec.proofs.Sequences.{all_in_at}
 use Rattle.rw_rule.specs.PlainRules.{is_single_or_monic, is_monic_where_many, is_plain}
 use Rattle.rw_plain.specs.RuleParts.{IsSpanOver}
 use Rattle.rw_rule.specs.RuleLists.{RuleLists}

@@ -7,7 +7,7 @@ use Rattle.rw_schema.specs.Signature.{Signature}
 use Rattle.rw_schema.proofs.Firsts.{all_unless, or_else_none, passed_unless}
 use Rattle.rw_schema.proofs.Lists.{list_all_at}
 use Rattle.rw_pattern.specs.MapFaults.{map_fault}
-use Rattle.rw_pattern.proofs.Sequences.{list_all_from_each}
+use Rattle.rw_spec.proofs.Sequences.{list_all_from_each}
 use Rattle.rw_rule.specs.RuleFaults.{are_maps, is_apart, is_map, is_sqpo, IsRuleOver}
 use Rattle.rw_rule.specs.RuleLists.{ConditionLists, RuleLists}
 use Rattle.rw_rule.specs.Sets.{bad_set, fits_set, fits_term, is_closed, is_on_part, set_again, unbound_set, value_missing}

@@ -10,7 +10,7 @@ use Rattle.rw_spec.proofs.Distinct.{distinct_from_test}
 use Rattle.rw_pattern.specs.MapFaults.{image_of, has_map_shape}
 use Rattle.rw_pattern.specs.PatternLists.{size_of, instance_of_pattern}
 use Rattle.rw_pattern.proofs.Maps.{is_map, natural_from_map}
-use Rattle.rw_pattern.proofs.Sequences.{all_in_at}
+use Rattle.rw_spec.proofs.Sequences.{all_in_at}
 use Rattle.rw_pattern.proofs.Shapes.{IsPattern, is_pattern}
 use Rattle.rw_rule.specs.PlainRules.{has_no_conditions, is_dpo, is_monic_where_many, is_plain}
 use Rattle.rw_rule.specs.Images.{has_distinct_images, is_injective}

@@ -16,7 +16,7 @@ use Rattle.rw_plain.specs.Obstructions.{dangling}
 use Rattle.rw_plain.specs.PlainStep.{next_after, instance_after, rows_after}
 use Rattle.rw_plain.proofs.CellKinds.{cell_kind}
 use Rattle.rw_plain.proofs.Equations.{equations_after}
-use Rattle.rw_plain.proofs.Listed.{listed_unfaulted}
+use Rattle.rw_table.proofs.Listed.{listed_unfaulted}
 use Rattle.rw_plain.proofs.NamesAfter.{kept_names, new_names, names_ascend_after}
 use Rattle.rw_plain.proofs.NewNames.{new_value_there, kept_value_there}
 use Rattle.rw_plain.proofs.PlainMatch.{IsPlainStep, is_plain_match}

@@ -3,7 +3,6 @@
 ghost use Rattle.std.specs.Prelude.{◌≡◌, IfOk, true, None, Contains, length};
 ghost use Rattle.rw_schema.specs.Presentation.{signature_of};
 ghost use Rattle.rw_table.specs.Tabled.{IsOver, instance_of_table};
-ghost use Rattle.rw_table.specs.TableFaults.{table_fault};
 ghost use Rattle.rw_pattern.specs.Matches.{matches};
 ghost use Rattle.rw_rule.specs.RuleFaults.{IsRuleOver};
 ghost use Rattle.rw_terms.specs.OpEntries.{entries};
@@ -18,8 +17,8 @@ use crate::rows::rows_after;
 use crate::set_values::{first_without_value, set_values};
 use rw_pattern::Tuple;
 use rw_rule::Rule;
-use rw_schema::{OutOfMemory, Rows, Schema};
-use rw_table::{Table, TableFault};
+use rw_schema::{OutOfMemory, Schema};
+use rw_table::Table;
 use rw_terms::OpTable;
 use std::alloc::Global;
 
@@ -58,18 +57,6 @@ pub fn try_match(
         return Ok(Verdict::Refused(refusal));
     }
     let rows = rows_after(alloc, schema, rule, table, tuple, values)?;
-    let after = table_of(alloc, schema, rows)?;
+    let after = Table::of_instance(alloc, schema, rows)?;
     Ok(Verdict::Ready(after))
-}
-
-/// The table with lists that are an instance of the schema.
-fn table_of(alloc: Global, schema: &Schema, rows: Rows) -> Result<Table, OutOfMemory>
-    requires { table_fault (signature_of schema.now) rows ≡ None }
-    ensures { IfOk result (λ table. table ≡ record { signature = signature_of schema.now; rows = rows }) }
-{
-    match Table::new(alloc, schema, rows) {
-        Ok(table) => Ok(table),
-        Err(TableFault::OutOfMemory) => Err(OutOfMemory),
-        Err(_) => unreachable!(),
-    }
 }

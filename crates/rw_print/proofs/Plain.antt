@@ -16,11 +16,11 @@ no_float_in value [] none = refl
 no_float_in value (x ∷ xs) none = rw (none x) (no_float_in value xs none)
 
 -- a list of numbers has no float
-no_float_in_counts : (counts : List ℕ) → has_float (list_data (map count_data counts)) ≡ false
+pub no_float_in_counts : (counts : List ℕ) → has_float (list_data (map count_data counts)) ≡ false
 no_float_in_counts counts = no_float_in count_data counts (λ count. refl)
 
 -- a list of tuples has no float
-no_float_in_tuples : (tuples : List (List ℕ)) → has_float (list_data (map tuple_data tuples)) ≡ false
+pub no_float_in_tuples : (tuples : List (List ℕ)) → has_float (list_data (map tuple_data tuples)) ≡ false
 no_float_in_tuples tuples = no_float_in tuple_data tuples no_float_in_counts
 
 -- the line of matches has no float

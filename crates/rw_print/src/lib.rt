@@ -4,6 +4,7 @@
 mod check;
 mod fault;
 mod last;
+mod limit;
 mod line;
 mod matches;
 mod news;
@@ -13,6 +14,7 @@ mod step;
 pub use check::check_line;
 pub use fault::fault_line;
 pub use last::{End, end_line};
+pub use limit::{clash_line, large_line, limit_line};
 pub use matches::matches_line;
 pub use step::step_line;
 

@@ -19,14 +19,14 @@ fn arrow_name(schema: &Schema, arrow: ArrowId) -> &str
     schema.arrow(arrow).name.as_str()
 }
 
-fn attribute_name(schema: &Schema, attribute: AttrId) -> &str
+pub(crate) fn attribute_name(schema: &Schema, attribute: AttrId) -> &str
     requires { attribute.0 < length schema.now.attributes }
     ensures { result.now ≡ name_of_attribute schema.now attribute }
 {
     schema.attr(attribute).name.as_str()
 }
 
-fn object_name(schema: &Schema, object: ObjectId) -> &str
+pub(crate) fn object_name(schema: &Schema, object: ObjectId) -> &str
     requires { object.0 < length schema.now.objects }
     ensures { result.now ≡ name_of_object schema.now object }
 {

@@ -1,3 +1,4 @@
 pub mod Distinct
 pub mod Look
+pub mod Sequences
 pub mod Signatures

@@ -68,7 +68,7 @@ const INSTANCES: &str = r#"
 
 /// Checks that each document, made of these two parts around a case, gets the line of the case. It answers how many
 /// cases there are.
-pub fn check_cases(
+pub(crate) fn check_cases(
     rt: &impl Abort,
     alloc: Global,
     before: &str,

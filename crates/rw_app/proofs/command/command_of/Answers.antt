@@ -9,4 +9,6 @@ returns-in_default c =
     let no_matches : word ≢ codes "matches" = rw c.as_str.ensures.value at c.in_default.not-matches in
     let no_run : word ≢ codes "run" = rw c.as_str.ensures.value at c.in_default.not-run in
     let no_check : word ≢ codes "check" = rw c.as_str.ensures.value at c.in_default.not-check in
-    rw (← c.as_slice.ensures.value, c.in_ok-word.ensures.cases.0) (no_command word others no_matches no_run no_check)
+    let no_pushout : word ≢ codes "pushout" = rw c.as_str.ensures.value at c.in_default.not-pushout in
+    let no_pullback : word ≢ codes "pullback" = rw c.as_str.ensures.value at c.in_default.not-pullback in
+    rw (← c.as_slice.ensures.value, c.in_ok-word.ensures.cases.0) (no_command word others no_matches no_run no_check no_pushout no_pullback)

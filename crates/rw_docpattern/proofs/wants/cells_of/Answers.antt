@@ -3,7 +3,7 @@ use Rattle.std.proofs.Common.{length, sym}
 use Rattle.std.proofs.lemmas.Iterator.Adapters.{YieldsList-from_vec}
 use Rattle.std.proofs.lemmas.Iterator.Consumers.{YieldsList-turn}
 use Rattle.rw_docpattern.specs.Patterns as spec
-use Rattle.rw_docpattern.proofs.Listed.{none_at, some_more}
+use Rattle.rw_doc.proofs.Listed.{none_at, some_more}
 use Rattle.rw_docpattern.proofs.wants.cells_of.Goals as goal
 
 pub returns-in_default : goal.returns-in_default

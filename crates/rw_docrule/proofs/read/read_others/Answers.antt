@@ -1,44 +1,21 @@
--- The rules and the watches are read over the schema, and then the rules are built.
-use Rattle.std.proofs.Common.{◌≡◌, ◌∙◌, true, false, List, [], All, map, codes, refl, sym, Vec, Global}
-use Rattle.std.specs.List.{list_all}
+-- The rules and the watches are read over the schema, and then what is left.
+use Rattle.std.proofs.Common.{List, map, codes, Vec, Global}
 use Rattle.std.proofs.lemmas.Result.{err_from_is_err_and}
-use Rattle.std.proofs.lemmas.List.{length-map}
-use Rattle.std.proofs.lemmas.List.Elements.{All-map, All-weaker}
 use Rattle.serde_json.specs.Data.{Data}
 use Rattle.serde_json.specs.Find.{get}
 use Rattle.serde_json.specs.View.{view}
-use Rattle.rw_schema.specs.Presentation.{signature_of}
-use Rattle.rw_schema.specs.Signature.{Signature}
-use Rattle.rw_rule.specs.declared.rule.Rule as built
-use Rattle.rw_rule.specs.declared.watch.Watch as declared
 use Rattle.rw_terms.specs.OpEntries.{entries}
-use Rattle.rw_rule.specs.RuleFaults.{IsGoalOver}
-use Rattle.rw_rule.specs.RuleLists.{RuleLists, WatchLists}
+use Rattle.rw_rule.specs.declared.watch.Watch as declared
+use Rattle.rw_rule.specs.RuleLists.{WatchLists}
 use Rattle.rw_rule.specs.RuleParts.{lists_of_watch}
 use Rattle.rw_docrule.specs.declared.rules.RuleRead as rules
-use Rattle.rw_docrule.specs.Documents as spec
-use Rattle.rw_docrule.specs.Known.{IsWatchRead}
-use Rattle.rw_docrule.specs.Models.{DocumentLists, document_lists}
+use Rattle.rw_docrule.specs.Documents.{read_spans}
+use Rattle.rw_docrule.specs.Models.{document_lists}
 use Rattle.rw_docrule.specs.Reads.{rule_read}
 use Rattle.rw_docrule.specs.Rules.{RuleRead, names_of_rules, read_rules}
 use Rattle.rw_docrule.specs.Watches.{read_watches}
-use Rattle.rw_docrule.proofs.FirstReadings.{ends_first, ends_checked, checked_so}
+use Rattle.rw_docrule.proofs.FirstReadings.{both_read, ends_first}
 use Rattle.rw_docrule.proofs.read.read_others.Goals as goal
-
-pub returns-clause-sound : goal.returns-clause-sound
-returns-clause-sound g c =
-    let C : Signature = signature_of c.args.schema in
-    let watches = c.in_ok-watches.watches.items in
-    let read : All (IsWatchRead C) (map lists_of_watch watches) = All-map (IsWatchRead C) lists_of_watch watches c.in_ok-watches.ensures.known in
-    record {
-      table = c.requires.over;
-      rules = c.in_ok-rules-2.ensures.over;
-      plain = c.in_ok-rules-2.ensures.plain;
-      watches = All-weaker (IsWatchRead C) (λ (watch : WatchLists). IsGoalOver C watch.goal) (λ watch is. is.over) (map lists_of_watch watches) read;
-      free = All-weaker (IsWatchRead C) (λ (watch : WatchLists). watch.goal.conditions ≡ []) (λ watch is. is.free) (map lists_of_watch watches) read;
-      few_rules = rw c.in_ok-rules-2.ensures.long c.in_ok-rules.ensures.few;
-      few_watches = rw (length-map watches lists_of_watch) c.in_ok-watches.ensures.few;
-    }
 
 pub returns-in_err-rules-clause-gives : goal.returns-in_err-rules-clause-gives
 returns-in_err-rules-clause-gives g c =
@@ -55,38 +32,12 @@ returns-in_err-watches-clause-gives g c =
     rw (p.1, p.2, rw c.get.ensures at c.in_ok-rules.ensures.gives) (ends_first (λ (watches : Vec declared.Watch Global). map lists_of_watch watches.items) document_lists c.in_err-watches.field-0.0
     (read_watches c.args.schema (names_of_rules rules) (get (codes "watches") value)) _ (rw (c.get-2.ensures, c.in_ok-rules.ensures.names) at c.in_err-watches.ensures.gives))
 
-pub returns-then-has_more-clause-gives : goal.returns-then-has_more-clause-gives
-returns-then-has_more-clause-gives g c =
-    let more : spec.has_more (view c.args.value.now) ≡ true = sym c.has_more.ensures ∙ c.if-has_more.true in
-    rw (
-      rw c.get.ensures at c.in_ok-rules.ensures.gives,
-      rw (c.get-2.ensures, c.in_ok-rules.ensures.names) at c.in_ok-watches.ensures.gives,
-      more,
-      c.not_built.ensures,
-    ) refl
-
-pub returns-in_err-rules-2-clause-gives : goal.returns-in_err-rules-2-clause-gives
-returns-in_err-rules-2-clause-gives g c =
-    let p = err_from_is_err_and c.from_residual-in_err-rules-2.result c.from_residual-in_err-rules-2.ensures.1 in
-    let more : spec.has_more (view c.args.value.now) ≡ false = sym c.has_more.ensures ∙ c.if-has_more.false in
-    let rules : List RuleRead = map rule_read c.in_ok-rules.rules.items in
-    let lists_with : List RuleLists → DocumentLists = λ (rules : List RuleLists). record { schema = c.args.schema; table = c.args.table; rules = rules; watches = map lists_of_watch c.in_ok-watches.watches.items } in
-    rw (
-      rw c.get.ensures at c.in_ok-rules.ensures.gives,
-      rw (c.get-2.ensures, c.in_ok-rules.ensures.names) at c.in_ok-watches.ensures.gives,
-      more,
-      p.1,
-      p.2,
-    ) (ends_checked (λ (rules : Vec built.Rule Global). rules.items) document_lists c.in_err-rules-2.field-0.0 spec.not_built (list_all spec.is_built rules)
-    (map (λ (read : RuleRead). read.rule) rules) (lists_with (map (λ (read : RuleRead). read.rule) rules)) c.in_err-rules-2.ensures.gives)
-
 pub returns-clause-gives : goal.returns-clause-gives
 returns-clause-gives g c =
-    let more : spec.has_more (view c.args.value.now) ≡ false = sym c.has_more.ensures ∙ c.if-has_more.false in
-    let rules : List RuleRead = map rule_read c.in_ok-rules.rules.items in
-    let lists_with : List RuleLists → DocumentLists = λ (rules : List RuleLists). record { schema = c.args.schema; table = c.args.table; rules = rules; watches = map lists_of_watch c.in_ok-watches.watches.items } in
-    rw (
-      rw c.get.ensures at c.in_ok-rules.ensures.gives,
-      rw (c.get-2.ensures, c.in_ok-rules.ensures.names) at c.in_ok-watches.ensures.gives,
-      more,
-    ) (checked_so lists_with spec.not_built (list_all spec.is_built rules) (map (λ (read : RuleRead). read.rule) rules) c.in_ok-rules-2.rules.items c.in_ok-rules-2.ensures.gives)
+    let value : Data = view c.args.value.now in
+    both_read document_lists c.read_spans.result (read_rules c.args.schema (entries c.args.ops.now) (get (codes "rules") value))
+    (λ (rules : List RuleRead). read_watches c.args.schema (names_of_rules rules) (get (codes "watches") value))
+    (λ (rules : List RuleRead) (watches : List WatchLists). read_spans c.args.schema c.args.table rules watches value)
+    (map rule_read c.in_ok-rules.rules.items) (map lists_of_watch c.in_ok-watches.watches.items)
+    (rw c.get.ensures at c.in_ok-rules.ensures.gives) (rw (c.get-2.ensures, c.in_ok-rules.ensures.names) at c.in_ok-watches.ensures.gives)
+    c.read_spans.ensures.gives

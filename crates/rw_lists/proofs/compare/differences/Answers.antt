@@ -2,7 +2,7 @@ use Rattle.std.proofs.Common.{◌≡◌, ◌<◌, ◌+◌, ◌++◌, ℕ, List, 
 use Rattle.std.proofs.lemmas.List.{length-map, get_or-map}
 use Rattle.rw_schema.specs.First.{flat_map_in}
 use Rattle.rw_schema.specs.RowLists.{list_at}
-use Rattle.rw_pattern.proofs.Sequences.{flat_map_in_more}
+use Rattle.rw_spec.proofs.Sequences.{flat_map_in_more}
 use Rattle.rw_lists.specs.News.{numbered, difference, lists_of_news, news_at}
 use Rattle.rw_lists.proofs.compare.differences.Goals as goal
 

@@ -58,8 +58,8 @@ rows_after-requires-clause-tuple g c =
     let rule : RuleLists = c.args.rule.now in
     match_long (signature_of c.args.schema.now) rule.goal.left rule.goal.monic (instance_of_table c.args.table.now) c.args.tuple.now c.requires.tuple
 
-pub table_of-requires : goal.table_of-requires
-table_of-requires g c =
+pub of_instance-requires : goal.of_instance-requires
+of_instance-requires g c =
     let C : Signature = signature_of c.args.schema.now in
     let rule : RuleLists = c.args.rule.now in
     let ops : List OpEntry = entries c.args.ops.now in

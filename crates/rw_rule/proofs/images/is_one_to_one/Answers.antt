@@ -2,7 +2,7 @@
 use Rattle.std.proofs.Common.{◌≡◌, ◌∙◌, ◌<◌, ◌+◌, ◌&&◌, ℕ, List, Bool, true, false, length, get_or, drop, sym, ap}
 use Rattle.std.proofs.lemmas.List.{get_or_default}
 use Rattle.rw_schema.specs.First.{all_in}
-use Rattle.rw_pattern.proofs.Sequences.{all_in_next}
+use Rattle.rw_spec.proofs.Sequences.{all_in_next}
 use Rattle.rw_spec.specs.Distinct.{are_distinct}
 use Rattle.rw_rule.specs.Images.{has_distinct_images}
 use Rattle.rw_rule.proofs.images.is_one_to_one.Goals as goal

@@ -1,0 +1,4 @@
+pub mod Instances
+pub mod Maps
+pub mod Spans
+pub mod Views

@@ -1,0 +1,15 @@
+//! Spans and cospans of a document that are read from JSON, each with its exact first fault.
+#![tactic(auto)]
+
+mod cells;
+mod cospan;
+mod forms;
+mod images;
+mod instance;
+mod lengths;
+mod limits;
+mod maps;
+mod span;
+
+pub use cospan::{Cospan, read_cospan};
+pub use span::{Span, read_span};

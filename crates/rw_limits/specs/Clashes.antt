@@ -1,0 +1,113 @@
+-- The cells of the classes of all objects, and the first clash of those.
+use Rattle.std.specs.Prelude.{◌≡◌, ◌==◌, ◌<◌, ◌≤◌, ◌+◌, ◌^◌, ◌&&◌, ◌||◌, ◌++◌, ℕ, Bool, nat_lt, cond, List, [], All, length, map, Option, Some, None, slice_get}
+use Rattle.rw_schema.specs.declared.atom.Atom.{Atom}
+use Rattle.rw_schema.specs.declared.signature.ArrowEnds.{ArrowEnds}
+use Rattle.rw_schema.specs.declared.signature.AttrEnds.{AttrEnds}
+use Rattle.rw_schema.specs.First.{map_in}
+use Rattle.rw_schema.specs.RowLists.{RowLists, list_at}
+use Rattle.rw_schema.specs.Signature.{Signature}
+use Rattle.rw_table.specs.TableFaults.{table_fault}
+use Rattle.rw_limits.specs.Merging.{Merges, cell_at}
+use Rattle.rw_limits.specs.Pushouts.{IsBefore}
+use Rattle.rw_limits.specs.Spans.{number_lists, first_lists, class_names, class_row_at, HasClassValues}
+use Rattle.rw_limits.specs.declared.class_cells.ClashAt.{ClashAt}
+use Rattle.rw_limits.specs.declared.classes.Classes.{Classes}
+use Rattle.rw_limits.specs.declared.colimit.GlueFault.{GlueFault}
+use Rattle.rw_limits.specs.declared.colimit.GlueFault.TheVariants.{Clash, OutOfMemory}
+use Rattle.rw_limits.specs.declared.merge.Difference.{Difference}
+use Rattle.rw_limits.specs.declared.merge.Merged.{Merged}
+use Rattle.rw_limits.specs.declared.merge.Merged.TheVariants.{Firsts, Differ}
+
+-- the cells of an attribute on both sides, left ones first
+abbrev pub both_cells : RowLists → RowLists → ℕ → List (Option Atom)
+both_cells left right c = list_at left.cells c ++ list_at right.cells c
+
+-- the parts of the attribute's object have a cell and a class each
+pub record CanMerge (left right : RowLists) (numbers firsts : List (List ℕ)) (c : ℕ) (ends : AttrEnds) : Type 0 where
+  pub left_cells : c < length left.cells
+  pub right_cells : c < length right.cells
+  pub numbered : ends.object.0 < length numbers
+  pub begun : ends.object.0 < length firsts
+  pub each : length (list_at numbers ends.object.0) ≡ length (list_at left.cells c) + length (list_at right.cells c)
+  pub within : All (λ class. class < length (list_at firsts ends.object.0)) (list_at numbers ends.object.0)
+  pub few : length (list_at numbers ends.object.0) < 2 ^ 32
+
+-- what merging the cells of an attribute gives
+abbrev pub MergesAt : RowLists → RowLists → List (List ℕ) → List (List ℕ) → ℕ → AttrEnds → Merged → Type 0
+MergesAt left right numbers firsts c ends merged =
+    Merges (cell_at (both_cells left right c)) (list_at numbers ends.object.0) (length (list_at firsts ends.object.0)) merged
+
+-- and of each attribute
+abbrev pub MergesEach : RowLists → RowLists → List (List ℕ) → List (List ℕ) → List AttrEnds → List Merged → Type 0
+MergesEach left right numbers firsts attributes merged = (c : ℕ) (ends : AttrEnds) → c < length merged → slice_get attributes c ≡ Some ends
+    → (each : Merged) × (slice_get merged c ≡ Some each) × MergesAt left right numbers firsts c ends each
+
+-- the clash at an attribute, or none where merging its cells gave none
+abbrev pub clash_at : ℕ → AttrEnds → Merged → Option ClashAt
+clash_at c ends (Firsts firsts) = None
+clash_at c ends (Differ difference) = Some (record { object = ends.object; attr = record { 0 = c }; difference = difference })
+
+-- the clash is at an earlier object, or there at an earlier class
+abbrev pub comes_earlier : ClashAt → ClashAt → Bool
+comes_earlier clash other =
+    nat_lt clash.object.0 other.object.0 || (clash.object.0 == other.object.0 && nat_lt clash.difference.class other.difference.class)
+
+-- the new clash where it comes before the one found, else this
+abbrev pub lesser : Option ClashAt → Option ClashAt → Option ClashAt
+lesser None new = new
+lesser (Some found) None = Some found
+lesser (Some found) (Some new) = cond (comes_earlier new found) (Some new) (Some found)
+
+-- no clash of the first n attributes is at an earlier object, class and attribute
+pub record IsFirstOf (n : ℕ) (attributes : List AttrEnds) (merged : List Merged) (clash : ClashAt) : Type 0 where
+  pub before : clash.attr.0 < n
+  pub ends : AttrEnds
+  pub there : slice_get attributes clash.attr.0 ≡ Some ends
+  pub holder : ends.object ≡ clash.object
+  pub differs : slice_get merged clash.attr.0 ≡ Some (Differ clash.difference)
+  pub least : (c : ℕ) (other : AttrEnds) (difference : Difference) → c < n → slice_get attributes c ≡ Some other → slice_get merged c ≡ Some (Differ difference)
+      → IsBefore other.object.0 difference.class c clash.object.0 clash.difference.class clash.attr.0 → ⊥
+
+-- the first clash of the first n attributes, or none where there is none
+abbrev pub FirstOf : ℕ → List AttrEnds → List Merged → Option ClashAt → Type 0
+FirstOf n attributes merged None = (c : ℕ) (ends : AttrEnds) (difference : Difference) → c < n → slice_get attributes c ≡ Some ends
+    → slice_get merged c ≡ Some (Differ difference) → ⊥
+FirstOf n attributes merged (Some clash) = IsFirstOf n attributes merged clash
+
+-- the fault that tells of the clash
+abbrev pub IsFaultOf : ClashAt → (ℕ → Option Atom) → GlueFault → Type 0
+IsFaultOf clash cell (Clash object part attr first second) =
+    (object ≡ clash.object) × (part ≡ clash.difference.class) × (attr ≡ clash.attr)
+    × (cell clash.difference.first ≡ Some first) × (cell clash.difference.second ≡ Some second)
+IsFaultOf clash cell OutOfMemory = ⊥
+
+-- the cell of a class, given by the place of its first part that has an atom
+abbrev pub first_cell : List (Option Atom) → Option ℕ → Option Atom
+first_cell cells None = None
+first_cell cells (Some place) = cell_at cells place
+
+-- the cells of the classes in an attribute; none where they clash
+abbrev pub merged_cells : List (Option Atom) → Merged → List (Option Atom)
+merged_cells cells (Firsts firsts) = map (first_cell cells) firsts.items
+merged_cells cells (Differ difference) = []
+
+-- the lists of the classes: their names are their numbers
+abbrev pub class_table : Signature → RowLists → RowLists → List (List ℕ) → List (List ℕ) → List Merged → RowLists
+class_table C left right numbers firsts merged = record {
+  names = class_names firsts;
+  arrows = map_in (class_row_at left right numbers firsts) 0 C.arrows;
+  cells = map_in (λ c each. merged_cells (both_cells left right c) each) 0 merged;
+  next = map length firsts;
+}
+
+-- the lists of the classes can be made, and are an instance
+pub record CanAssemble (C : Signature) (left right : RowLists) (classes : List Classes) (merged : List Merged) : Type 0 where
+  pub objects : length classes ≤ 64
+  pub left_names : length classes ≤ length left.names
+  pub few : All (λ each. length each.firsts.items < 2 ^ 32) classes
+  pub counts : (object : ℕ) → object < length classes → length (list_at left.names object) ≤ length (list_at (number_lists classes) object)
+  pub values : (a : ℕ) (ends : ArrowEnds) → slice_get C.arrows a ≡ Some ends → HasClassValues left right (number_lists classes) (first_lists classes) a ends
+  pub attributes : length merged ≤ 256
+  pub left_cells : length merged ≤ length left.cells
+  pub right_cells : length merged ≤ length right.cells
+  pub sound : table_fault C (class_table C left right (number_lists classes) (first_lists classes) merged) ≡ None

@@ -1,0 +1,13 @@
+pub mod Clashes
+pub mod Classes
+pub mod Fibers
+pub mod Glued
+pub mod Links
+pub mod Merging
+pub mod PairLists
+pub mod Pairs
+pub mod Pullbacks
+pub mod Pushouts
+pub mod RowCospans
+pub mod Sides
+pub mod Spans

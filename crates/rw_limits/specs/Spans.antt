@@ -1,0 +1,134 @@
+-- Two homomorphisms out of one apex, in lists, and the classes of what they join.
+use Rattle.std.specs.Prelude.{◌≡◌, ◌<◌, ◌≤◌, ◌+◌, ◌^◌, ℕ, true, List, All, Option, Some, None, map, length, take, drop, slice_get, slice_index, slice_index_or}
+use Rattle.std.specs.List.{range_with_len}
+use Rattle.rw_schema.specs.declared.atom.Atom.{Atom}
+use Rattle.rw_schema.specs.declared.signature.ArrowEnds.{ArrowEnds}
+use Rattle.rw_schema.specs.declared.signature.AttrEnds.{AttrEnds}
+use Rattle.rw_schema.specs.First.{map_in}
+use Rattle.rw_schema.specs.RowLists.{RowLists, list_at}
+use Rattle.rw_schema.specs.Signature.{Signature, IsCategory}
+use Rattle.rw_spec.specs.Cocone.{Frame}
+use Rattle.rw_spec.specs.Homomorphism.{map_of}
+use Rattle.rw_spec.specs.Instance.{instance_of}
+use Rattle.rw_table.specs.TableFaults.{ascends, table_fault}
+use Rattle.rw_map.specs.Homs.{IsHom}
+use Rattle.rw_limits.specs.Classes.{AreClasses}
+use Rattle.rw_limits.specs.Pushouts.{spot, either, count_at, cell_of}
+use Rattle.rw_limits.specs.declared.classes.Classes.{Classes}
+
+-- the frame of the lists of two instances under an apex, with the images of its parts
+abbrev pub span_frame : Signature → RowLists → RowLists → RowLists → List (List ℕ) → List (List ℕ) → Frame
+span_frame C apex left right f g = record {
+  apex = instance_of C apex;
+  left = instance_of C left;
+  right = instance_of C right;
+  to_left = map_of (instance_of C apex) f;
+  to_right = map_of (instance_of C apex) g;
+}
+
+-- the lists are instances with two homomorphisms out of the apex, and each object's parts are few enough to number
+pub record IsSpan (C : Signature) (apex left right : RowLists) (f g : List (List ℕ)) : Type 0 where
+  pub category : IsCategory C
+  pub apex_sound : table_fault C apex ≡ None
+  pub left_sound : table_fault C left ≡ None
+  pub right_sound : table_fault C right ≡ None
+  pub to_left : IsHom C (instance_of C apex) (instance_of C left) f
+  pub to_right : IsHom C (instance_of C apex) (instance_of C right) g
+  pub few : (object : ℕ) → object < C.objects → count_at (span_frame C apex left right f g) object < 2 ^ 32
+
+-- of each two images the places among the names of both sides, left ones counted first
+abbrev pub joined : List ℕ → List ℕ → List ℕ → List ℕ → List (ℕ × ℕ)
+joined left right xs ys = map_in (λ k x. (spot left x, length left + spot right (slice_index ys k))) 0 xs
+
+-- the number of parts of an object on both sides
+abbrev pub part_count : RowLists → RowLists → ℕ → ℕ
+part_count left right object = length (list_at left.names object) + length (list_at right.names object)
+
+-- what two lists of images join at an object
+abbrev pub joined_by : RowLists → RowLists → List (List ℕ) → List (List ℕ) → ℕ → List (ℕ × ℕ)
+joined_by left right f g object = joined (list_at left.names object) (list_at right.names object) (list_at f object) (list_at g object)
+
+-- the places of the images at each object are among those of the names of both sides, which ascend
+pub record AreJoinable (objects : ℕ) (left right : RowLists) (f g : List (List ℕ)) : Type 0 where
+  pub left_lists : objects ≤ length left.names
+  pub right_lists : objects ≤ length right.names
+  pub left_images : objects ≤ length f
+  pub right_images : objects ≤ length g
+  pub left_ascend : (object : ℕ) → object < objects → ascends (list_at left.names object) ≡ true
+  pub right_ascend : (object : ℕ) → object < objects → ascends (list_at right.names object) ≡ true
+  pub paired : (object : ℕ) → object < objects → length (list_at g object) ≡ length (list_at f object)
+  pub few : (object : ℕ) → object < objects → part_count left right object < 2 ^ 32
+  pub within : (object : ℕ) → object < objects
+      → All (λ pair. (pair.0 < part_count left right object) × (pair.1 < part_count left right object)) (joined_by left right f g object)
+
+-- of each object the class of each part
+abbrev pub number_lists : List Classes → List (List ℕ)
+number_lists classes = map (λ each. each.numbers.items) classes
+
+-- of each object the first part of each class
+abbrev pub first_lists : List Classes → List (List ℕ)
+first_lists classes = map (λ each. each.firsts.items) classes
+
+-- the parts of both sides of each object are divided into classes by what the images join
+abbrev pub AreClassesBy : ℕ → RowLists → RowLists → List (List ℕ) → List (List ℕ) → List (List ℕ) → List (List ℕ) → Type 0
+AreClassesBy objects left right f g numbers firsts = (object : ℕ) → object < objects
+    → AreClasses (part_count left right object) (joined_by left right f g object) (list_at numbers object) (list_at firsts object)
+
+-- the place, among the names of both sides, of the image of a part of either side
+abbrev pub value_place : List ℕ → List ℕ → List ℕ → List ℕ → ℕ → ℕ
+value_place left_row right_row left_targets right_targets e =
+    either left_row right_row (spot left_targets) (λ y. length left_targets + spot right_targets y) e
+
+-- of each class, given by its first part, the class to which an arrow leads
+abbrev pub class_row : List ℕ → List ℕ → List ℕ → List ℕ → List ℕ → List ℕ → List ℕ
+class_row left_row right_row left_targets right_targets numbers firsts =
+    map (λ e. slice_index numbers (value_place left_row right_row left_targets right_targets e)) firsts
+
+-- the row of an arrow
+abbrev pub class_row_at : RowLists → RowLists → List (List ℕ) → List (List ℕ) → ℕ → ArrowEnds → List ℕ
+class_row_at left right numbers firsts a ends =
+    class_row (list_at left.arrows a) (list_at right.arrows a) (list_at left.names ends.target.0) (list_at right.names ends.target.0)
+    (list_at numbers ends.target.0) (list_at firsts ends.source.0)
+
+-- an arrow leads from the first part of each class to a part that has a class
+pub record HasClassValues (left right : RowLists) (numbers firsts : List (List ℕ)) (a : ℕ) (ends : ArrowEnds) : Type 0 where
+  pub left_row : a < length left.arrows
+  pub right_row : a < length right.arrows
+  pub left_names : ends.target.0 < length left.names
+  pub right_names : ends.target.0 < length right.names
+  pub numbered : ends.target.0 < length numbers
+  pub begun : ends.source.0 < length firsts
+  pub left_ascend : ascends (list_at left.names ends.target.0) ≡ true
+  pub right_ascend : ascends (list_at right.names ends.target.0) ≡ true
+  pub few : part_count left right ends.target.0 < 2 ^ 32
+  pub parts : All (λ e. e < length (list_at left.arrows a) + length (list_at right.arrows a)) (list_at firsts ends.source.0)
+  pub places : All (λ e. value_place (list_at left.arrows a) (list_at right.arrows a) (list_at left.names ends.target.0) (list_at right.names ends.target.0) e < length (list_at numbers ends.target.0))
+      (list_at firsts ends.source.0)
+
+-- the classes are numbered from 0
+abbrev pub class_names : List (List ℕ) → List (List ℕ)
+class_names firsts = map (λ each. range_with_len 0 (length each)) firsts
+
+-- of each object the class of each left part
+abbrev pub left_classes : RowLists → List (List ℕ) → List (List ℕ)
+left_classes left numbers = map_in (λ object each. take (length (list_at left.names object)) each) 0 numbers
+
+-- of each object the class of each right part
+abbrev pub right_classes : RowLists → List (List ℕ) → List (List ℕ)
+right_classes left numbers = map_in (λ object each. drop (length (list_at left.names object)) each) 0 numbers
+
+-- each atom of a part is its class's, and each atom of a class is that of one of its parts
+pub record AreClassCells (count : ℕ) (numbers firsts : List ℕ) (cell : ℕ → Option Atom) (cells : List (Option Atom)) : Type 0 where
+  pub each : length cells ≡ length firsts
+  pub kept : (e : ℕ) (atom : Atom) → e < count → cell e ≡ Some atom → slice_index_or cells (slice_index numbers e) None ≡ Some atom
+  pub from : (w : ℕ) (atom : Atom) → w < length firsts → slice_index_or cells w None ≡ Some atom
+      → (e : ℕ) × (e < count) × (slice_index numbers e ≡ w) × (cell e ≡ Some atom)
+
+-- the lists of an instance of classes
+pub record AreClassLists (C : Signature) (F : Frame) (left right : RowLists) (numbers firsts : List (List ℕ)) (rows : RowLists) : Type 0 where
+  pub names : rows.names ≡ class_names firsts
+  pub next : rows.next ≡ map length firsts
+  pub arrows : rows.arrows ≡ map_in (class_row_at left right numbers firsts) 0 C.arrows
+  pub cell_lists : length rows.cells ≡ length C.attributes
+  pub cells : (c : ℕ) (ends : AttrEnds) → slice_get C.attributes c ≡ Some ends
+      → AreClassCells (count_at F ends.object.0) (list_at numbers ends.object.0) (list_at firsts ends.object.0) (cell_of F ends.object.0 c) (list_at rows.cells c)

@@ -1,0 +1,7 @@
+pub mod Atoms
+pub mod Composites
+pub mod Ends
+pub mod Entries
+pub mod Faults
+pub mod HomChecks
+pub mod Objects

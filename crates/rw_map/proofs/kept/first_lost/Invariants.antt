@@ -1,0 +1,17 @@
+-- The first fault of all is the first of what is left.
+use Rattle.std.proofs.Common.{◌≡◌, drop}
+use Rattle.rw_schema.specs.First.{first_in, fault_unless}
+use Rattle.rw_schema.specs.Presentation.{ends_of_attribute}
+use Rattle.rw_spec.specs.Homomorphism.{map_of}
+use Rattle.rw_table.specs.Tabled.{instance_of_table}
+use Rattle.rw_map.specs.HomFaults.{keeps_at, lost_cell}
+use Rattle.rw_map.specs.declared.fault.HomFault.TheVariants.{Cell}
+use Rattle.rw_map.proofs.kept.first_lost.Given as goal
+
+abbrev pub invariant-loop-position : goal.invariant-loop-position
+invariant-loop-position l =
+    let X = instance_of_table l.x in
+    let Y = instance_of_table l.y in
+    let ends = ends_of_attribute l.ends in
+    lost_cell X Y (map_of X l.map) l.attribute.0 ends
+    ≡ first_in (λ position x. fault_unless (keeps_at X Y (map_of X l.map) l.attribute.0 ends x) (Cell l.attribute position)) l.position (drop l.position (X.names ends.object.0))

@@ -1,0 +1,2 @@
+pub mod HomFaults
+pub mod Homs

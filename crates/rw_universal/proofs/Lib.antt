@@ -1,0 +1,4 @@
+pub mod Choice
+pub mod Gluing
+pub mod Pairing
+pub mod Paths

@@ -1,0 +1,3 @@
+pub mod Gluing
+pub mod Pairing
+pub mod Values
