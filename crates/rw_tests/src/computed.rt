@@ -42,17 +42,6 @@ const VALUELESS: &str =
 "right":{"parts":[2],"rows":[],"cells":[["w",1,{"op":"rem","args":[1,0]}],["u",0,{"op":"mul","args":[9223372036854775807,2]}],["w",0,7]]},
 "l":[[0,1]],"r":[[0,1]]}]}"#;
 
-/// An agent on a path of two edges: it walks along an edge and loses energy.
-const AGENT: &str = r#"{"format":1,"schema":{"objects":["V","E","A"],
-"arrows":[["src","E","V"],["tgt","E","V"],["at","A","V"]],"attributes":[["energy","A","int"]]},
-"instance":{"parts":[3,2,1],"rows":[[0,1],[1,2],[0]],"cells":[[5]]},
-"rules":[{"name":"move","kind":"dpo","monic":["V"],
-"left":{"parts":[2,1,1],"rows":[[0],[1],[0]],"cells":[["energy",0,{"var":"x"}]]},
-"keep":{"parts":[2,1,0],"rows":[[0],[1],[]]},
-"right":{"parts":[2,1,1],"rows":[[0],[1],[1]],"cells":[["energy",0,{"op":"sub","args":[{"var":"x"},1]}]]},
-"l":[[0,1],[0],[]],"r":[[0,1],[0],[]]}],
-"watches":[{"name":"tired","pattern":{"parts":[1,0,1],"rows":[[],[],[0]],"cells":[["energy",0,3]]}}]}"#;
-
 #[test]
 fn sums_out_of_range_refuse_a_match(rt: HostRuntime) -> Result<(), Fail> {
     let alloc = rt.alloc();
@@ -83,11 +72,4 @@ fn the_least_set_without_a_value_is_named(rt: HostRuntime) -> Result<(), Fail> {
     let text =
         "{\"box\":0,\"lists\":[],\"match\":null,\"refused\":[[[0,1],[\"no_value\",\"u\",0]]],\"rule\":\"none\"}\n{\"end\":\"done\",\"fuel\":999,\"lists\":[1],\"sizes\":[2]}\n";
     check(&rt, rt.alloc(), &["run"], VALUELESS.as_bytes(), 0, text)
-}
-
-#[test]
-fn an_agent_walks(rt: HostRuntime) -> Result<(), Fail> {
-    let text =
-        "{\"box\":0,\"lists\":[[0,[[0,1,0,0]],[[1,2,1,1]]]],\"match\":[0,1,0,0],\"refused\":[],\"rule\":\"move\"}\n{\"box\":0,\"lists\":[[0,[[1,2,1,1]],[]],[1,[],[[2,2]]]],\"match\":[1,2,1,1],\"refused\":[],\"rule\":\"move\"}\n{\"box\":0,\"lists\":[],\"match\":null,\"refused\":[],\"rule\":\"move\"}\n{\"end\":\"done\",\"fuel\":997,\"lists\":[0,1],\"sizes\":[3,2,1]}\n";
-    check(&rt, rt.alloc(), &["run"], AGENT.as_bytes(), 0, text)
 }

@@ -20,18 +20,6 @@ pub const LOOP: &str =
 /// A document that is cut short.
 pub const CUT: &str = r#"{"format":1"#;
 
-/// A triangle with a tail, and the pattern of a directed triangle.
-pub const TRIANGLE: &str =
-    r#"{"format":1,"schema":{"objects":["V","E"],"arrows":[["src","E","V"],["tgt","E","V"]]},
-"instance":{"parts":[4,4],"rows":[[0,1,2,2],[1,2,0,3]]},
-"watches":[{"name":"triangle","pattern":{"parts":[3,3],"rows":[[0,1,2],[1,2,0]]}}]}"#;
-
-/// A Petri net of an infection and a recovery, and the pattern of a place that a transition takes from and gives to.
-pub const PETRI: &str = r#"{"format":1,"schema":{"objects":["Place","Transition","Input","Output"],
-"arrows":[["from","Input","Place"],["into","Input","Transition"],["to","Output","Place"],["out","Output","Transition"]]},
-"instance":{"parts":[3,2,3,3],"rows":[[0,1,1],[0,0,1],[1,1,2],[0,0,1]]},
-"watches":[{"name":"catalyst","pattern":{"parts":[1,1,1,1],"rows":[[0],[0],[0],[0]]}}]}"#;
-
 /// A rule that puts a loop at a vertex, and no instance.
 pub const GROW: &str =
     r#"{"format":1,"schema":{"objects":["V","E"],"arrows":[["src","E","V"],["tgt","E","V"]]},

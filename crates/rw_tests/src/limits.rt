@@ -1,5 +1,6 @@
 //! Pushouts of spans and pullbacks of cospans, as commands.
 
+use crate::documents::PATH;
 use crate::tests::check;
 use std::test::Fail;
 
@@ -14,22 +15,6 @@ const TWO_NUMBERS: &str =
     r#"{"format":1,"schema":{"objects":["V"],"arrows":[],"attributes":[["w","V","int"]]},
 "span":{"apex":{"parts":[1],"rows":[],"cells":[[null]]},"left":{"parts":[1],"rows":[],"cells":[[1]]},"right":{"parts":[1],"rows":[],"cells":[[2]]},
 "to_left":[[0]],"to_right":[[0]]}}"#;
-
-/// Meshes of triangles, whose edges meet in their corners, and two triangles along one edge.
-const TWO_MESHES: &str = r#"{"format":1,"schema":{"objects":["V","E","T"],
-"arrows":[["src","E","V"],["tgt","E","V"],["e0","T","E"],["e1","T","E"],["e2","T","E"]],
-"attributes":[["label","V","text"]],
-"equations":[["T",["e2","src"],["e1","src"]],["T",["e2","tgt"],["e0","src"]],["T",["e0","tgt"],["e1","tgt"]]]},
-"span":{"apex":{"parts":[2,1,0],"rows":[[0],[1],[],[],[]],"cells":[[null,null]]},
-"left":{"parts":[3,3,1],"rows":[[1,0,0],[2,2,1],[0],[1],[2]],"cells":[["a","b","c"]]},
-"right":{"parts":[3,3,1],"rows":[[1,0,0],[2,2,1],[0],[1],[2]],"cells":[[null,"c","d"]]},
-"to_left":[[1,2],[0],[]],"to_right":[[0,1],[2],[]]}}"#;
-
-/// Graphs, and two edges over one loop.
-const TWO_OVER_A_LOOP: &str =
-    r#"{"format":1,"schema":{"objects":["V","E"],"arrows":[["src","E","V"],["tgt","E","V"]]},
-"cospan":{"left":{"parts":[2,1],"rows":[[0],[1]]},"right":{"parts":[2,1],"rows":[[0],[1]]},"base":{"parts":[1,1],"rows":[[0],[0]]},
-"left_map":[[0,0],[0]],"right_map":[[0,0],[0]]}}"#;
 
 /// Symmetric graphs with a number on each edge, and two of them over one whose edges are their own inverses.
 const TWO_SYMMETRIC: &str = r#"{"format":1,"schema":{"objects":["V","E"],
@@ -59,35 +44,6 @@ fn different_numbers_clash(rt: HostRuntime) -> Result<(), Fail> {
         rt.alloc(),
         &["pushout"],
         TWO_NUMBERS.as_bytes(),
-        0,
-        line,
-    )
-}
-
-// The corner 1 of the left triangle is 0 of the right one, and 2 is 1; the text of a blank corner comes from the other side.
-#[test]
-fn two_meshes_are_glued_along_an_edge(rt: HostRuntime) -> Result<(), Fail> {
-    let line =
-        "{\"cells\":[[\"a\",\"b\",\"c\",\"d\"]],\"left\":[[0,1,2],[0,1,2],[0]],\"right\":[[1,2,3],[3,4,0],[1]],\"rows\":[[1,0,0,2,1],[2,2,1,3,3],[0,3],[1,4],[2,0]],\"sizes\":[4,5,2]}\n";
-    check(
-        &rt,
-        rt.alloc(),
-        &["pushout"],
-        TWO_MESHES.as_bytes(),
-        0,
-        line,
-    )
-}
-
-#[test]
-fn two_edges_over_a_loop_have_one_pair(rt: HostRuntime) -> Result<(), Fail> {
-    let line =
-        "{\"cells\":[],\"left\":[[0,0,1,1],[0]],\"right\":[[0,1,0,1],[0]],\"rows\":[[0],[3]],\"sizes\":[4,1]}\n";
-    check(
-        &rt,
-        rt.alloc(),
-        &["pullback"],
-        TWO_OVER_A_LOOP.as_bytes(),
         0,
         line,
     )
@@ -129,14 +85,7 @@ fn too_many_pairs_are_told(rt: HostRuntime) -> Result<(), Fail> {
 fn a_command_asks_for_its_section(rt: HostRuntime) -> Result<(), Fail> {
     let alloc = rt.alloc();
     let no_span = "{\"at\":[0,0,0],\"fault\":2,\"section\":\"span\"}\n";
-    check(
-        &rt,
-        alloc,
-        &["pushout"],
-        TWO_OVER_A_LOOP.as_bytes(),
-        3,
-        no_span,
-    )?;
+    check(&rt, alloc, &["pushout"], PATH.as_bytes(), 3, no_span)?;
     let no_cospan = "{\"at\":[0,0,0],\"fault\":2,\"section\":\"cospan\"}\n";
     check(
         &rt,

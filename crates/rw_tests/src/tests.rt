@@ -3,7 +3,7 @@ ghost use Rattle.rw_app.specs.Operations.{usual_operations};
 ghost use Rattle.rw_terms.specs.OpEntries.{entries};
 ghost use Rattle.rw_terms.specs.OpValues.{op_value};
 
-use crate::documents::{CUT, LOOP, PATH, PETRI, TRIANGLE, UNIT};
+use crate::documents::{CUT, LOOP, PATH, UNIT};
 use rw_app::{Status, run_words};
 use rw_outside::{MemSink, MemSource, Sink, Source};
 use rw_schema::Text;
@@ -103,26 +103,7 @@ fn matches_are_listed(rt: HostRuntime) -> Result<(), Fail> {
     let unit = "{\"matches\":[[]],\"name\":\"unit\"}\n";
     check(&rt, alloc, &["matches", "unit"], UNIT.as_bytes(), 0, unit)?;
     let looped = "{\"matches\":[[0,0,0]],\"name\":\"edge\"}\n";
-    check(&rt, alloc, &["matches", "edge"], LOOP.as_bytes(), 0, looped)?;
-    let triangles =
-        "{\"matches\":[[0,1,2,0,1,2],[1,2,0,1,2,0],[2,0,1,2,0,1]],\"name\":\"triangle\"}\n";
-    check(
-        &rt,
-        alloc,
-        &["matches", "triangle"],
-        TRIANGLE.as_bytes(),
-        0,
-        triangles,
-    )?;
-    let catalysts = "{\"matches\":[[1,0,1,0],[1,0,1,1]],\"name\":\"catalyst\"}\n";
-    check(
-        &rt,
-        alloc,
-        &["matches", "catalyst"],
-        PETRI.as_bytes(),
-        0,
-        catalysts,
-    )
+    check(&rt, alloc, &["matches", "edge"], LOOP.as_bytes(), 0, looped)
 }
 
 #[test]
