@@ -61,7 +61,7 @@ fn read_sections(
 }
 
 /// The lists of an instance with so many parts, these images and these cells.
-fn rows_of(
+pub fn rows_of(
     alloc: Global,
     parts: Vec<u32>,
     rows: Vec<Vec<u32>>,

@@ -1,6 +1,7 @@
 //! Numbers of parts as a document has them.
 
-ghost use Rattle.std.specs.Prelude.{◌≡◌, IfOk, map, option_map};
+ghost use Rattle.std.specs.Prelude.{◌≡◌, IfOk, codes, map, option_and_then, option_map};
+ghost use Rattle.serde_json.specs.Find.{get};
 ghost use Rattle.serde_json.specs.View.{view};
 ghost use Rattle.rw_doc.specs.Chain.{all_some};
 ghost use Rattle.rw_doc.specs.Numbers as spec;
@@ -63,6 +64,26 @@ pub fn as_number_lists(alloc: Global, value: &Value) -> Result<Option<Vec<Vec<u3
 {
     match items_of(value) {
         Some(items) => number_lists_of(alloc, items),
+        None => Ok(None),
+    }
+}
+
+/// The numbers of parts that are written in the value.
+pub fn parts_in(alloc: Global, value: &Value) -> Result<Option<Vec<u32>>, OutOfMemory>
+    ensures { IfOk result (λ parts. option_map (λ parts. parts.items) parts ≡ option_and_then spec.as_numbers (get (codes "parts") (view value.now))) }
+{
+    match value.get("parts") {
+        Some(parts) => as_numbers(alloc, parts),
+        None => Ok(None),
+    }
+}
+
+/// The images that are written in the value.
+pub fn rows_in(alloc: Global, value: &Value) -> Result<Option<Vec<Vec<u32>>>, OutOfMemory>
+    ensures { IfOk result (λ rows. option_map (λ rows. map (λ row. row.items) rows.items) rows ≡ option_and_then spec.as_number_lists (get (codes "rows") (view value.now))) }
+{
+    match value.get("rows") {
+        Some(rows) => as_number_lists(alloc, rows),
         None => Ok(None),
     }
 }

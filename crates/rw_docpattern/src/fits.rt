@@ -1,71 +1,17 @@
 //! Whether sets fit the left pattern of their rule.
 
-ghost use Rattle.std.specs.Prelude.{◌≡◌, ◌<◌, ◌&&◌, All, Some, is_none, length};
+ghost use Rattle.std.specs.Prelude.{◌≡◌, ◌<◌, All, is_none, length};
 ghost use Rattle.std.specs.List.{list_all};
-ghost use Rattle.rw_schema.specs.Presentation.{signature_of, ends_of_attribute};
-ghost use Rattle.rw_pattern.specs.Matches.{wants as is_variable};
+ghost use Rattle.rw_schema.specs.Presentation.{signature_of};
 ghost use Rattle.rw_terms.specs.OpEntries.{entries as operations};
 ghost use Rattle.rw_rule.specs.Sets as rules;
 ghost use Rattle.rw_docpattern.specs.Reads.{pattern_read};
 ghost use Rattle.rw_docpattern.specs.Sets as spec;
 
 use crate::PatternRead;
-use crate::term::MOST_LEVELS;
-use rw_pattern::{Pattern, Want};
-use rw_rule::SetCell;
-use rw_schema::{AttrDef, AttrId, Kind, Schema};
-use rw_terms::{OpTable, Term};
-
-/// Whether the variable is wanted.
-fn wants(variable: u32, want: &Want) -> bool
-    ensures { result ≡ is_variable variable want.now }
-{
-    match want {
-        Want::Const(_) => false,
-        Want::Var(other) => variable == *other,
-    }
-}
-
-/// Whether the variable is on a cell of the pattern.
-fn is_bound(left: &Pattern, variable: u32) -> bool
-    ensures { result ≡ rules.is_bound left.now variable }
-{
-    left.cells()
-        .iter()
-        .any(|entry| wants(variable, &entry.want))
-}
-
-/// Whether each variable of the term is on a cell of the pattern. The stack grows with the levels of the term.
-fn is_closed(left: &Pattern, term: &Term) -> bool
-    ensures { result ≡ rules.is_closed left.now term.now }
-{
-    match term {
-        Term::Const(_) => true,
-        Term::Var(variable) => is_bound(left, *variable),
-        Term::Op(_, first, second) => {
-            is_closed(left, first.get()) && is_closed(left, second.get())
-        }
-    }
-}
-
-/// Whether the kind is there, and is that of the attribute.
-fn is_kind_of(attribute: &AttrDef, kind: Option<Kind>) -> bool
-    ensures { result ≡ rules.is_kind_of (Some (ends_of_attribute attribute.now)) kind }
-{
-    match kind {
-        Some(kind) => kind.is(attribute.kind),
-        None => false,
-    }
-}
-
-/// Whether the term has the kind of the attribute, and not too many levels.
-fn fits_term(schema: &Schema, ops: usize, kinds: &[Kind], set: &SetCell) -> bool
-    requires { set.now.attr.0 < length schema.now.attributes }
-    ensures { result ≡ rules.fits_term (signature_of schema.now) ops kinds.now set.now }
-{
-    let attribute = schema.attr(set.attr);
-    is_kind_of(attribute, set.term.kind(kinds, ops)) && set.term.is_within(MOST_LEVELS)
-}
+use rw_rule::{SetCell, fits_term, is_closed, is_set};
+use rw_schema::Schema;
+use rw_terms::OpTable;
 
 /// Whether the set has variables of the left pattern alone, and its term fits.
 fn fits_left(schema: &Schema, ops: &OpTable, left: &PatternRead, set: &SetCell) -> bool
@@ -86,20 +32,6 @@ fn do_fit(schema: &Schema, ops: &OpTable, left: &PatternRead, sets: &[SetCell]) 
         }
     }
     true
-}
-
-/// Whether the set is on the cell.
-fn is_on_cell(attr: AttrId, part: u32, set: &SetCell) -> bool
-    ensures { result ≡ rules.is_on_cell attr.0 part set.now }
-{
-    set.attr.0 == attr.0 && set.part == part
-}
-
-/// Whether a set is on the cell.
-fn is_set(sets: &[SetCell], attr: AttrId, part: u32) -> bool
-    ensures { result ≡ rules.is_set sets.now attr.0 part }
-{
-    sets.iter().any(|set| is_on_cell(attr, part, set))
 }
 
 /// Whether no set is on a cell that an earlier one is on. The time is quadratic.

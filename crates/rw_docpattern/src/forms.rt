@@ -1,16 +1,14 @@
 //! What is written of patterns.
 
-ghost use Rattle.std.specs.Prelude.{◌≡◌, IfOk, codes, map, option_and_then, option_map};
-ghost use Rattle.serde_json.specs.Find.{get};
+ghost use Rattle.std.specs.Prelude.{◌≡◌, IfOk, map, option_map};
 ghost use Rattle.serde_json.specs.View.{view};
 ghost use Rattle.rw_doc.specs.Chain.{all_some};
 ghost use Rattle.rw_docpattern.specs.Forms as spec;
-ghost use Rattle.rw_doc.specs.Numbers.{as_number_lists as number_lists_of, as_numbers as numbers_of};
 ghost use Rattle.rw_docpattern.specs.Views.{form_of};
 
 use crate::WrittenEntry;
 use crate::terms::term_of;
-use rw_doc::{as_number, as_number_lists, as_numbers, has_only, items_of};
+use rw_doc::{as_number, has_only, items_of, parts_in, rows_in};
 use rw_schema::{OutOfMemory, Text};
 use serde_json::Value;
 use std::alloc::Global;
@@ -84,31 +82,11 @@ fn entries_or_none(
     }
 }
 
-/// The numbers of parts.
-fn sizes_in(alloc: Global, value: &Value) -> Result<Option<Vec<u32>>, OutOfMemory>
-    ensures { IfOk result (λ sizes. option_map (λ sizes. sizes.items) sizes ≡ option_and_then numbers_of (get (codes "parts") (view value.now))) }
-{
-    match value.get("parts") {
-        Some(sizes) => as_numbers(alloc, sizes),
-        None => Ok(None),
-    }
-}
-
-/// The rows.
-fn rows_in(alloc: Global, value: &Value) -> Result<Option<Vec<Vec<u32>>>, OutOfMemory>
-    ensures { IfOk result (λ rows. option_map (λ rows. map (λ row. row.items) rows.items) rows ≡ option_and_then number_lists_of (get (codes "rows") (view value.now))) }
-{
-    match value.get("rows") {
-        Some(rows) => as_number_lists(alloc, rows),
-        None => Ok(None),
-    }
-}
-
 /// The form that is written at the keys of the value.
 fn form_from(alloc: Global, value: &Value) -> Result<Option<Form>, OutOfMemory>
     ensures { IfOk result (λ form. option_map form_of form ≡ spec.form_from (view value.now)) }
 {
-    let Some(sizes) = sizes_in(alloc, value)? else {
+    let Some(sizes) = parts_in(alloc, value)? else {
         return Ok(None);
     };
     let Some(rows) = rows_in(alloc, value)? else {

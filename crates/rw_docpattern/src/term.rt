@@ -4,11 +4,9 @@ ghost use Rattle.std.specs.Prelude.{◌≡◌, nat_le};
 ghost use Rattle.rw_docpattern.specs.Terms as spec;
 
 use rw_doc::{has_name_length, has_text_length};
+use rw_rule::MOST_LEVELS;
 use rw_schema::{Atom, Text};
 use sqlite_items::Boxed;
-
-/// The greatest number of levels of a term.
-pub(crate) const MOST_LEVELS: usize = 32;
 
 /// A term as a document has it: a constant, a variable by its name, or an operation by its name, on two terms.
 #[derive(Drop)]

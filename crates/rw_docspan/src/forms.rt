@@ -1,15 +1,13 @@
 //! What is written of the instances of a span or a cospan.
 
-ghost use Rattle.std.specs.Prelude.{◌≡◌, IfOk, codes, map, option_and_then, option_map};
-ghost use Rattle.serde_json.specs.Find.{get};
+ghost use Rattle.std.specs.Prelude.{◌≡◌, IfOk, map, option_map};
 ghost use Rattle.serde_json.specs.View.{view};
 ghost use Rattle.rw_doc.specs.Chain.{all_some};
 ghost use Rattle.rw_doc.specs.Json.{as_list};
-ghost use Rattle.rw_doc.specs.Numbers.{as_number_lists as number_lists_of, as_numbers as numbers_of};
 ghost use Rattle.rw_docspan.specs.Instances as spec;
 ghost use Rattle.rw_docspan.specs.Views.{form_lists};
 
-use rw_doc::{as_number_lists, as_numbers, has_only, items_of};
+use rw_doc::{has_only, items_of, parts_in, rows_in};
 use rw_schema::OutOfMemory;
 use serde_json::Value;
 use std::alloc::Global;
@@ -49,26 +47,6 @@ fn values_or_none<'v>(
     };
     match items_of(value) {
         Some(items) => lists_of(alloc, items),
-        None => Ok(None),
-    }
-}
-
-/// The numbers of parts.
-fn parts_in(alloc: Global, value: &Value) -> Result<Option<Vec<u32>>, OutOfMemory>
-    ensures { IfOk result (λ parts. option_map (λ parts. parts.items) parts ≡ option_and_then numbers_of (get (codes "parts") (view value.now))) }
-{
-    match value.get("parts") {
-        Some(parts) => as_numbers(alloc, parts),
-        None => Ok(None),
-    }
-}
-
-/// The images.
-fn rows_in(alloc: Global, value: &Value) -> Result<Option<Vec<Vec<u32>>>, OutOfMemory>
-    ensures { IfOk result (λ rows. option_map (λ rows. map (λ row. row.items) rows.items) rows ≡ option_and_then number_lists_of (get (codes "rows") (view value.now))) }
-{
-    match value.get("rows") {
-        Some(rows) => as_number_lists(alloc, rows),
         None => Ok(None),
     }
 }

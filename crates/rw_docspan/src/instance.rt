@@ -1,7 +1,6 @@
 //! Instances of a span or a cospan.
 
-ghost use Rattle.std.specs.Prelude.{◌≡◌, IfOk, Ok, is_none, length, map, true};
-ghost use Rattle.std.specs.List.{range_with_len};
+ghost use Rattle.std.specs.Prelude.{◌≡◌, IfOk, Ok, is_none, length, true};
 ghost use Rattle.serde_json.specs.View.{view};
 ghost use Rattle.rw_schema.specs.First.{all_in};
 ghost use Rattle.rw_schema.specs.Presentation.{signature_of};
@@ -9,7 +8,6 @@ ghost use Rattle.rw_table.specs.TableFaults.{table_fault};
 ghost use Rattle.rw_table.specs.Tabled.{IsOver};
 ghost use Rattle.rw_doc.specs.Chain.{and_then, checked, some_or};
 ghost use Rattle.rw_doc.specs.Gives.{Gives};
-ghost use Rattle.rw_doc.specs.Instances.{rows_of as lists_of};
 ghost use Rattle.rw_doc.specs.Pieces.{fault_in};
 ghost use Rattle.rw_docspan.specs.Instances as spec;
 ghost use Rattle.rw_docspan.specs.Views.{form_lists};
@@ -19,47 +17,11 @@ use crate::forms::{Form, form_of};
 use crate::images::have_images;
 use crate::lengths::has_lengths;
 use crate::limits::is_in_limits;
-use rw_doc::{Piece, ReadDocEnd};
-use rw_schema::{Atom, OutOfMemory, Rows, Schema};
+use rw_doc::{Piece, ReadDocEnd, rows_of};
+use rw_schema::{Rows, Schema};
 use rw_table::{Table, TableFault};
 use serde_json::Value;
 use std::alloc::Global;
-
-/// The names of so many parts.
-fn names_below(alloc: Global, count: u32) -> Result<Vec<u32>, OutOfMemory>
-    ensures { IfOk result (λ names. names.items ≡ range_with_len 0 count) }
-{
-    let mut names = Vec::new(alloc);
-    for name in 0..count {
-        names.push(name)?;
-    }
-    Ok(names)
-}
-
-/// Of each object the names of its parts.
-fn names_of(alloc: Global, parts: &[u32]) -> Result<Vec<Vec<u32>>, OutOfMemory>
-    ensures { IfOk result (λ names. map (λ list. list.items) names.items ≡ map (range_with_len 0) parts.now) }
-{
-    let mut names = Vec::new(alloc);
-    for count in parts {
-        let list = names_below(alloc, *count)?;
-        names.push(list)?;
-    }
-    Ok(names)
-}
-
-/// The lists of an instance with so many parts, these images and these cells.
-fn rows_of(
-    alloc: Global,
-    parts: Vec<u32>,
-    rows: Vec<Vec<u32>>,
-    cells: Vec<Vec<Option<Atom>>>,
-) -> Result<Rows, OutOfMemory>
-    ensures { IfOk result (λ lists. lists ≡ lists_of parts.items (map (λ row. row.items) rows.items) (map (λ list. list.items) cells.items)) }
-{
-    let names = names_of(alloc, parts.as_slice())?;
-    Ok(Rows::from_lists(names, rows, cells, parts))
-}
 
 /// The instance with the lists, where they are one.
 fn table_of(alloc: Global, schema: &Schema, piece: Piece, rows: Rows) -> Result<Table, ReadDocEnd>

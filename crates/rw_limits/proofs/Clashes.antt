@@ -10,7 +10,7 @@ use Rattle.rw_spec.proofs.Look.{look_at}
 use Rattle.rw_limits.specs.Merging.{AreMerged, IsClash, IsFirst, cell_at}
 use Rattle.rw_limits.specs.Pushouts.{IsClashAt, cell_of, either}
 use Rattle.rw_limits.proofs.Merging.{first_or_none, not_blank}
-use Rattle.rw_limits.proofs.NoCocone.{either_left, either_right}
+use Rattle.rw_limits.proofs.Sides.{either_left, either_right}
 
 -- the cells beside the names of both sides, one list behind the other, are the cells of the parts
 pub cells_beside_names : (left right : List ℕ) (left_cells right_cells : List (Option Atom)) → AreDistinct left → AreDistinct right

@@ -6,7 +6,7 @@ use Rattle.std.proofs.lemmas.Option.{same_Some, slice_get_within, slice_get-get_
 use Rattle.rw_schema.specs.declared.signature.AttrEnds.{AttrEnds}
 use Rattle.rw_schema.specs.RowLists.{RowLists}
 use Rattle.rw_limits.specs.Clashes.{MergesAt, MergesEach, clash_at, comes_earlier, lesser, IsFirstOf, FirstOf}
-use Rattle.rw_limits.specs.Pushouts.{IsBefore}
+use Rattle.rw_limits.specs.Pushouts.{IsEarlierPlace}
 use Rattle.rw_limits.specs.declared.class_cells.ClashAt.{ClashAt}
 use Rattle.rw_limits.specs.declared.merge.Difference.{Difference}
 use Rattle.rw_limits.specs.declared.merge.Merged.{Merged}
@@ -47,7 +47,7 @@ merges_more left right numbers firsts attributes merged ends new so_far there he
     ]
 
 -- no place comes before itself
-before_itself : (object w c : ℕ) → IsBefore object w c object w c → ⊥
+before_itself : (object w c : ℕ) → IsEarlierPlace object w c object w c → ⊥
 before_itself object w c before =
     elim before [
       | inl less ↦ omega arith
@@ -62,7 +62,7 @@ abbrev IsEarlier : ℕ → ℕ → ℕ → ℕ → Type 0
 IsEarlier object w object' w' = (object < object') ⊎ ((object ≡ object') × (w < w'))
 
 -- what comes before something earlier comes before all that is later
-before_earlier : (o w c o' w' c' o'' w'' c'' : ℕ) → IsBefore o w c o' w' c' → IsEarlier o' w' o'' w'' → IsBefore o w c o'' w'' c''
+before_earlier : (o w c o' w' c' o'' w'' c'' : ℕ) → IsEarlierPlace o w c o' w' c' → IsEarlier o' w' o'' w'' → IsEarlierPlace o w c o'' w'' c''
 before_earlier o w c o' w' c' o'' w'' c'' before earlier =
     elim before [
       | inl less ↦ elim earlier [
@@ -97,7 +97,7 @@ earlier_from new found passed =
 
 -- a clash that does not come before an earlier attribute's is nowhere before it
 not_before : (new found : ClashAt) (c : ℕ) → comes_earlier new found ≡ false → found.attr.0 < c
-    → IsBefore new.object.0 new.difference.class c found.object.0 found.difference.class found.attr.0 → ⊥
+    → IsEarlierPlace new.object.0 new.difference.class c found.object.0 found.difference.class found.attr.0 → ⊥
 not_before new found c failed later before =
     let same_object : Bool = new.object.0 == found.object.0 in
     let lesser_class : Bool = nat_lt new.difference.class found.difference.class in
@@ -142,7 +142,7 @@ module _ (n : ℕ) (attributes : List AttrEnds) (merged : List Merged) (ends : A
   -- a new clash where none of the earlier attributes has one before it
   first_new : (new : Difference) → slice_get merged n ≡ Some (Differ new)
       → ((c : ℕ) (other : AttrEnds) (difference : Difference) → c < n → slice_get attributes c ≡ Some other → slice_get merged c ≡ Some (Differ difference)
-      → IsBefore other.object.0 difference.class c ends.object.0 new.class n → ⊥)
+      → IsEarlierPlace other.object.0 difference.class c ends.object.0 new.class n → ⊥)
       → IsFirstOf (n + 1) attributes merged (record { object = ends.object; attr = record { 0 = n }; difference = new })
   first_new new is none = record {
     before = omega arith;
@@ -159,9 +159,9 @@ module _ (n : ℕ) (attributes : List AttrEnds) (merged : List Merged) (ends : A
               let same_new : Differ new ≡ Differ difference = same_Some (Differ new) (Differ difference) (sym is ∙ ap (slice_get merged) (sym last) ∙ other_is) in
               let equal : new ≡ difference = cc in
               before_itself ends.object.0 new.class n
-              (subst (λ (k : ℕ). IsBefore ends.object.0 new.class k ends.object.0 new.class n) last
-              (subst (λ (each : Difference). IsBefore ends.object.0 each.class c ends.object.0 new.class n) (sym equal)
-              (subst (λ (each : AttrEnds). IsBefore each.object.0 difference.class c ends.object.0 new.class n) (sym same) before)))
+              (subst (λ (k : ℕ). IsEarlierPlace ends.object.0 new.class k ends.object.0 new.class n) last
+              (subst (λ (each : Difference). IsEarlierPlace ends.object.0 each.class c ends.object.0 new.class n) (sym equal)
+              (subst (λ (each : AttrEnds). IsEarlierPlace each.object.0 difference.class c ends.object.0 new.class n) (sym same) before)))
         ];
   }
 
@@ -197,9 +197,9 @@ module _ (n : ℕ) (attributes : List AttrEnds) (merged : List Merged) (ends : A
                         let same_new : Differ new ≡ Differ difference = same_Some (Differ new) (Differ difference) (sym is ∙ ap (slice_get merged) (sym last) ∙ other_is) in
                         let equal : new ≡ difference = cc in
                         not_before clash found n fails so_far.before
-                        (subst (λ (k : ℕ). IsBefore ends.object.0 new.class k found.object.0 found.difference.class found.attr.0) last
-                        (subst (λ (each : Difference). IsBefore ends.object.0 each.class c found.object.0 found.difference.class found.attr.0) (sym equal)
-                        (subst (λ (each : AttrEnds). IsBefore each.object.0 difference.class c found.object.0 found.difference.class found.attr.0) (sym same) before)))
+                        (subst (λ (k : ℕ). IsEarlierPlace ends.object.0 new.class k found.object.0 found.difference.class found.attr.0) last
+                        (subst (λ (each : Difference). IsEarlierPlace ends.object.0 each.class c found.object.0 found.difference.class found.attr.0) (sym equal)
+                        (subst (λ (each : AttrEnds). IsEarlierPlace each.object.0 difference.class c found.object.0 found.difference.class found.attr.0) (sym same) before)))
                   ];
             }
       ]

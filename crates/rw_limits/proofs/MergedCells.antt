@@ -15,7 +15,7 @@ use Rattle.rw_spec.proofs.Signatures.{holder_is}
 use Rattle.rw_table.proofs.Checked.{checked_known, shape_known, names_apart, cells_whole}
 use Rattle.rw_limits.specs.Clashes.{both_cells, CanMerge, MergesAt, MergesEach, IsFirstOf, FirstOf, first_cell, merged_cells}
 use Rattle.rw_limits.specs.Merging.{AreMerged, cell_at}
-use Rattle.rw_limits.specs.Pushouts.{count_at, cell_of, either, AreClassesOf, IsBefore, IsClashAt, IsFirstClash}
+use Rattle.rw_limits.specs.Pushouts.{count_at, cell_of, either, AreClassesOf, IsEarlierPlace, IsClashAt, IsFirstClash}
 use Rattle.rw_limits.specs.Spans.{span_frame, IsSpan, AreClassCells}
 use Rattle.rw_limits.specs.declared.class_cells.ClashAt.{ClashAt}
 use Rattle.rw_limits.specs.declared.merge.Difference.{Difference}
@@ -48,7 +48,7 @@ class_cells_from cells list count numbers firsts places each within same merged 
 }
 
 -- what comes before a place comes before it also at a lesser class
-before_lower : (o w c o' w' c' v : ℕ) → v ≤ w → IsBefore o w c o' w' c' → IsBefore o v c o' w' c'
+before_lower : (o w c o' w' c' v : ℕ) → v ≤ w → IsEarlierPlace o w c o' w' c' → IsEarlierPlace o v c o' w' c'
 before_lower o w c o' w' c' v lower before =
     elim before [
       | inl less ↦ inl less
@@ -138,8 +138,8 @@ module _ (C : Signature) (apex left right : RowLists) (f g : List (List ℕ)) (s
     -- a clash that is not before the first of all attributes' merges is not before it
     not_earlier : (each : Merged) (c w : ℕ) (ends : AttrEnds) (a b : Atom) (object' w' c' : ℕ) → slice_get C.attributes c ≡ Some ends
         → MergesAt left right numbers firsts c ends each
-        → ((difference : Difference) → each ≡ Differ difference → IsBefore ends.object.0 difference.class c object' w' c' → ⊥)
-        → IsClashAt (span_frame C apex left right f g) (list_at numbers ends.object.0) ends.object.0 c w a b → IsBefore ends.object.0 w c object' w' c' → ⊥
+        → ((difference : Difference) → each ≡ Differ difference → IsEarlierPlace ends.object.0 difference.class c object' w' c' → ⊥)
+        → IsClashAt (span_frame C apex left right f g) (list_at numbers ends.object.0) ends.object.0 c w a b → IsEarlierPlace ends.object.0 w c object' w' c' → ⊥
     not_earlier (Firsts places) c w ends a b object' w' c' there merges least clash before =
         no_clash_merged (cell_at (both_cells left right c)) (list_at numbers ends.object.0) (length (list_at firsts ends.object.0)) places.items w clash.first clash.second a b merges
         (clash_of_cells (span_frame C apex left right f g) ends.object.0 c (cell_at (both_cells left right c)) (list_at numbers ends.object.0) w a b (cells_are c ends there) clash)
@@ -184,5 +184,5 @@ module _ (C : Signature) (apex left right : RowLists) (f g : List (List ℕ)) (s
               not_earlier found'.0 c' w' ends' a' b' clash.object.0 clash.difference.class c there' found'.2
               (λ difference same. first.least c' ends' difference known' there' (found'.1 ∙ ap (λ each. Some each) same))
               (subst (λ (object : ℕ). IsClashAt F (list_at numbers object) object c' w' a' b') (sym holder') clash')
-              (subst (λ (object : ℕ). IsBefore object w' c' clash.object.0 clash.difference.class c) (sym holder') before);
+              (subst (λ (object : ℕ). IsEarlierPlace object w' c' clash.object.0 clash.difference.class c) (sym holder') before);
         }

@@ -1,9 +1,8 @@
 -- Where two parts of one class have different atoms there is no cocone.
-use Rattle.std.proofs.Common.{◌≡◌, ◌==◌, ◌<◌, ◌≤◌, ◌+◌, ◌-◌, ℕ, true, false, List, length, Contains, Option, Some, get_or, slice_get, slice_index, refl, sym, ap, ◌∙◌, subst, inl, inr, arith}
-use Rattle.std.proofs.lemmas.Bool.{cases_lt, eqb-true, eq-eqb, lt-ltb, le-ltb}
+use Rattle.std.proofs.Common.{◌≡◌, ◌<◌, ◌+◌, ◌-◌, ℕ, List, length, Contains, Option, Some, slice_get, slice_index, sym, ap, ◌∙◌, subst, inl, inr, arith}
+use Rattle.std.proofs.lemmas.Bool.{cases_lt}
 use Rattle.std.proofs.lemmas.List.{get_or_default}
 use Rattle.std.proofs.lemmas.List.Elements.{All-contains_itself, All-map, All-weaker}
-use Rattle.std.proofs.lemmas.List.Sums.{fails_before_first, passes_at_first}
 use Rattle.rw_schema.specs.declared.atom.Atom.{Atom}
 use Rattle.rw_schema.specs.declared.signature.AttrEnds.{AttrEnds}
 use Rattle.rw_schema.specs.Signature.{Signature}
@@ -12,27 +11,7 @@ use Rattle.rw_spec.specs.Instance.{Instance}
 use Rattle.rw_spec.specs.Natural.{Map, IsNatural}
 use Rattle.rw_limits.specs.Classes.{Joins, AreClasses}
 use Rattle.rw_limits.specs.Pushouts.{IsClashAt, cell_of, count_at, either, joined_at, spot}
-
--- a name that is there stands at its place
-spot_found : (names : List ℕ) (x : ℕ) → Contains names x → (spot names x < length names) × (slice_index names (spot names x) ≡ x)
-spot_found names x there =
-    let within : spot names x < length names =
-    elim (cases_lt (spot names x) (length names)) [
-      | inl within ↦ within
-      | inr past ↦
-          let fails : (get_or names there.0 x == x) ≡ false = fails_before_first (λ name. name == x) names there.0 x (omega (arith, there.1)) in
-          let passes : (get_or names there.0 x == x) ≡ true = eq-eqb (get_or names there.0 x) x there.2 in
-          let no : ⊥ = cc in absurd no
-    ] in
-    (within, eqb-true (slice_index names (spot names x)) x (passes_at_first (λ name. name == x) names 0 within))
-
--- what d gives of a left part
-pub either_left : {A : Type 0} (left right : List ℕ) (d s : ℕ → A) (e : ℕ) → e < length left → either left right d s e ≡ d (slice_index left e)
-either_left left right d s e within = rw (lt-ltb e (length left) within) refl
-
--- what s gives of a right part
-pub either_right : {A : Type 0} (left right : List ℕ) (d s : ℕ → A) (e : ℕ) → length left ≤ e → either left right d s e ≡ s (slice_index right (e - length left))
-either_right left right d s e past = rw (le-ltb e (length left) past) refl
+use Rattle.rw_limits.proofs.Sides.{either_left, either_right, spot_here, spot_within}
 
 -- a name at a place is there
 has_at : (names : List ℕ) (e : ℕ) → e < length names → Contains names (slice_index names e)
@@ -70,13 +49,13 @@ cocone_joins C F object T d s within to_left to_right cocone =
     let right_place : ℕ → ℕ = λ z. length left + spot right (F.to_right object z) in
     let one : (z : ℕ) → Contains names z → h (left_place z) ≡ h (right_place z) =
     λ z there.
-    let x = spot_found left (F.to_left object z) (to_left.parts object z within there) in
-    let y = spot_found right (F.to_right object z) (to_right.parts object z within there) in
+    let on_left = to_left.parts object z within there in
+    let on_right = to_right.parts object z within there in
     let place : right_place z - length left ≡ spot right (F.to_right object z) = omega arith in
-    either_left left right (d object) (s object) (left_place z) x.0
-    ∙ ap (d object) x.1
+    either_left left right (d object) (s object) (left_place z) (spot_within left (F.to_left object z) on_left)
+    ∙ ap (d object) (spot_here left (F.to_left object z) on_left)
     ∙ cocone.agrees object z within there
-    ∙ sym (ap (s object) y.1)
+    ∙ sym (ap (s object) (spot_here right (F.to_right object z) on_right))
     ∙ sym (ap (λ (e : ℕ). s object (slice_index right e)) place)
     ∙ sym (either_right left right (d object) (s object) (right_place z) (omega arith)) in
     All-map (λ (pair : ℕ × ℕ). h pair.0 ≡ h pair.1) (λ z. (left_place z, right_place z)) names

@@ -8,7 +8,7 @@ use Rattle.rw_schema.specs.RowLists.{RowLists, list_at}
 use Rattle.rw_schema.specs.Signature.{Signature}
 use Rattle.rw_table.specs.TableFaults.{table_fault}
 use Rattle.rw_limits.specs.Merging.{Merges, cell_at}
-use Rattle.rw_limits.specs.Pushouts.{IsBefore}
+use Rattle.rw_limits.specs.Pushouts.{IsEarlierPlace}
 use Rattle.rw_limits.specs.Spans.{number_lists, first_lists, class_names, class_row_at, HasClassValues}
 use Rattle.rw_limits.specs.declared.class_cells.ClashAt.{ClashAt}
 use Rattle.rw_limits.specs.declared.classes.Classes.{Classes}
@@ -66,7 +66,7 @@ pub record IsFirstOf (n : ℕ) (attributes : List AttrEnds) (merged : List Merge
   pub holder : ends.object ≡ clash.object
   pub differs : slice_get merged clash.attr.0 ≡ Some (Differ clash.difference)
   pub least : (c : ℕ) (other : AttrEnds) (difference : Difference) → c < n → slice_get attributes c ≡ Some other → slice_get merged c ≡ Some (Differ difference)
-      → IsBefore other.object.0 difference.class c clash.object.0 clash.difference.class clash.attr.0 → ⊥
+      → IsEarlierPlace other.object.0 difference.class c clash.object.0 clash.difference.class clash.attr.0 → ⊥
 
 -- the first clash of the first n attributes, or none where there is none
 abbrev pub FirstOf : ℕ → List AttrEnds → List Merged → Option ClashAt → Type 0

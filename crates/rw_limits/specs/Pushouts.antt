@@ -67,8 +67,8 @@ AreClassesOf C F numbers firsts = (object : ℕ) → object < C.objects
     → AreClasses (count_at F object) (joined_at F object) (list_at numbers object) (list_at firsts object)
 
 -- the place (object, class, attribute) comes before the other
-abbrev pub IsBefore : ℕ → ℕ → ℕ → ℕ → ℕ → ℕ → Type 0
-IsBefore object w c object' w' c' = (object < object') ⊎ ((object ≡ object') × ((w < w') ⊎ ((w ≡ w') × (c < c'))))
+abbrev pub IsEarlierPlace : ℕ → ℕ → ℕ → ℕ → ℕ → ℕ → Type 0
+IsEarlierPlace object w c object' w' c' = (object < object') ⊎ ((object ≡ object') × ((w < w') ⊎ ((w ≡ w') × (c < c'))))
 
 -- two parts of one class have different atoms, and there are none at an earlier object, class and attribute
 pub record IsFirstClash (C : Signature) (F : Frame) (numbers : List (List ℕ)) (object w c : ℕ) (a b : Atom) : Type 0 where
@@ -77,7 +77,7 @@ pub record IsFirstClash (C : Signature) (F : Frame) (numbers : List (List ℕ)) 
   pub holder : ends.object.0 ≡ object
   pub clash : IsClashAt F (list_at numbers object) object c w a b
   pub least : (object' w' c' : ℕ) (ends' : AttrEnds) (a' b' : Atom) → slice_get C.attributes c' ≡ Some ends' → ends'.object.0 ≡ object'
-      → IsClashAt F (list_at numbers object') object' c' w' a' b' → IsBefore object' w' c' object w c → ⊥
+      → IsClashAt F (list_at numbers object') object' c' w' a' b' → IsEarlierPlace object' w' c' object w c → ⊥
 
 -- one image for each part on either side, and the images of all parts, left ones first, number the classes in the order of
 -- their first parts; the names are these numbers

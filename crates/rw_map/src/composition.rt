@@ -32,10 +32,7 @@ pub fn compose(
         → IsHomomorphism x.now.signature (instance_of_table y.now) Z (map_of (instance_of_table y.now) g.now)
         → IsHom x.now.signature (instance_of_table x.now) Z h) }
 {
-    // A schema has at most 64 objects; a table alone does not say so.
-    let Ok(objects) = u16::try_from(x.rows().name_lists()) else {
-        return Err(OutOfMemory);
-    };
+    let objects = x.rows().name_lists() as u16;
     let mut lists = Vec::new(alloc);
     for number in 0..objects {
         let object = ObjectId(number);

@@ -12,9 +12,9 @@ ghost use Rattle.rw_map.specs.Homs.{HasImages};
 ghost use Rattle.rw_map.specs.declared.fault.HomFault.TheVariants.{Range};
 
 use crate::HomFault;
-use crate::look::{count_of, has_name, names_of};
+use crate::look::{count_of, names_of};
 use rw_schema::{ObjectId, PartMap, Schema};
-use rw_table::Table;
+use rw_table::{Table, has_name};
 
 /// The first image that is no name of the target.
 pub fn first_range_fault(schema: &Schema, x: &Table, y: &Table, map: &PartMap) -> Option<HomFault>

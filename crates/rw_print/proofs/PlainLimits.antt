@@ -10,7 +10,7 @@ use Rattle.rw_schema.specs.declared.ids.ObjectId.{ObjectId}
 use Rattle.rw_schema.specs.Presentation.{Presentation}
 use Rattle.rw_schema.specs.RowLists.{RowLists}
 use Rattle.rw_print.specs.Limits.{atom_data, cell_data, cells_data, limit_data, clash_data}
-use Rattle.rw_print.specs.Lines.{list_data, tuple_data, count_data}
+use Rattle.rw_print.specs.Lines.{list_data}
 use Rattle.rw_print.proofs.Plain.{no_float_in, no_float_in_counts, no_float_in_tuples}
 
 -- a whole number is no float

@@ -29,6 +29,7 @@ pub use plain::is_plain;
 pub use refusal::Refusal;
 pub use rule::Rule;
 pub use set::SetCell;
+pub use sets::{MOST_LEVELS, fits_term, is_closed, is_set};
 pub use watch::Watch;
 
 #[cfg(test)]

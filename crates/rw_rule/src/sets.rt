@@ -29,8 +29,8 @@ pub fn first_unbound_set(parts: &RuleParts) -> Option<RuleFault>
     None
 }
 
-/// Whether each variable of the term is on a cell of the pattern.
-fn is_closed(left: &Pattern, term: &Term) -> bool
+/// Whether each variable of the term is on a cell of the pattern. The stack grows with the depth of the term.
+pub fn is_closed(left: &Pattern, term: &Term) -> bool
     ensures { result ≡ is_closed_over left.now term.now }
 {
     match term {
@@ -84,7 +84,7 @@ fn is_on_part(schema: &Schema, right: &Pattern, set: &SetCell) -> bool
 }
 
 /// Whether the term has the kind of the attribute, and is not too deep.
-fn fits_term(schema: &Schema, ops: usize, kinds: &[Kind], set: &SetCell) -> bool
+pub fn fits_term(schema: &Schema, ops: usize, kinds: &[Kind], set: &SetCell) -> bool
     requires { set.now.attr.0 < length schema.now.attributes }
     ensures { result ≡ is_fitting_term (signature_of schema.now) ops kinds.now set.now }
 {

@@ -1,12 +1,9 @@
--- What the guess and the search answer is the place.
-use Rattle.rw_limits.proofs.Searched.{spot_stands, spot_searched, spot_missed}
+-- The place of a name is its spot, and the spot of a name that has none is the number of names.
+use Rattle.rw_limits.proofs.Searched.{spot_placed, spot_nowhere}
 use Rattle.rw_limits.proofs.spots.spot_of.Goals as goal
 
 pub returns-in-Some-clause-value : goal.returns-in-Some-clause-value
-returns-in-Some-clause-value c = spot_stands c.args.names.now c.args.name c.in-Some.place c.requires c.in-Some.ensures
+returns-in-Some-clause-value c = spot_placed c.args.names.now c.args.name c.in-Some.place c.in-Some.ensures
 
-pub returns-in-Ok-clause-value : goal.returns-in-Ok-clause-value
-returns-in-Ok-clause-value c = spot_searched c.args.names.now c.args.name c.in-Ok.place c.requires c.in-Ok.ensures.position
-
-pub returns-in-Err-clause-value : goal.returns-in-Err-clause-value
-returns-in-Err-clause-value c = spot_missed c.args.names.now c.args.name c.in-Err.field-0 c.requires c.in-Err.ensures.position
+pub returns-in-None-clause-value : goal.returns-in-None-clause-value
+returns-in-None-clause-value c = spot_nowhere c.args.names.now c.args.name c.in-None.ensures

@@ -18,7 +18,7 @@ pub end_of-requires-clause-rows : goal.end_of-requires-clause-rows
 end_of-requires-clause-rows c =
     let table = c.self.inside in
     let C : Signature = record { objects = length table.rows.names; arrows = table.arrows.items; attributes = table.attributes.items; equations = table.equations.items } in
-    rw c.as_slice.ensures.value (rows_of_arrows C table.rows c.self.invariant.0 (checked_known C table.rows c.self.invariant.1).shape)
+    rw c.as_slice.ensures.value (rows_of_arrows C table.rows c.self.invariant.0.0 (checked_known C table.rows c.self.invariant.1).shape)
 
 pub returns : goal.returns
 returns c =

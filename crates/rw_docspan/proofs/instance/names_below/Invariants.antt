@@ -1,7 +1,0 @@
--- The names so far.
-use Rattle.std.proofs.Common.{◌≡◌}
-use Rattle.std.specs.List.{range_with_len}
-use Rattle.rw_docspan.proofs.instance.names_below.Given as goal
-
-abbrev pub invariant-loop-name : goal.invariant-loop-name
-invariant-loop-name l = l.names.items ≡ range_with_len 0 l.name
