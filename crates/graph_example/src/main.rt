@@ -8,8 +8,6 @@ ghost use Rattle.graph_example.specs.Graphs.{graphs};
 
 mod agreeing;
 mod graphs;
-#[cfg(test)]
-mod tests;
 mod walks;
 
 use agreeing::agreeing_pairs;
