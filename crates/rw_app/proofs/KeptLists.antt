@@ -3,7 +3,7 @@ use Rattle.std.proofs.Common.{◌≡◌, ◌∙◌, ◌++◌, ℕ, List, [], ◌
 use Rattle.std.specs.List.{All}
 use Rattle.std.proofs.lemmas.List.{get_or-map, length-map, map-append}
 use Rattle.rw_schema.specs.Presentation.{signature_of}
-use Rattle.rw_table.specs.Tabled.{Tabled, IsOver, instance_of_table}
+use Rattle.rw_spec.specs.Tabled.{Tabled, IsOver, instance_of_table}
 use Rattle.rw_rule.specs.RuleLists.{RuleLists, WatchLists}
 use Rattle.rw_rule.specs.RuleParts.{goal_of_parts, lists_of_watch}
 use Rattle.rw_rule.specs.declared.watch.Watch.{Watch}

@@ -4,7 +4,7 @@ use Rattle.std.specs.List.{All}
 use Rattle.rw_schema.specs.Presentation.{signature_of}
 use Rattle.rw_schema.specs.RowLists.{RowLists}
 use Rattle.rw_spec.specs.Instance.{instance_of}
-use Rattle.rw_table.specs.Tabled.{IsOver}
+use Rattle.rw_spec.specs.Tabled.{IsOver}
 use Rattle.rw_rule.specs.RuleFaults.{IsGoalOver}
 use Rattle.rw_rule.specs.RuleLists.{RuleLists, WatchLists}
 use Rattle.rw_lists.specs.Fresh.{fresh_list}

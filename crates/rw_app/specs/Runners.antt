@@ -4,7 +4,7 @@ use Rattle.std.specs.List.{flat_map}
 use Rattle.std.specs.Option.{is_some}
 use Rattle.rw_schema.specs.Presentation.{signature_of}
 use Rattle.rw_schema.specs.RowLists.{RowLists}
-use Rattle.rw_table.specs.Tabled.{IsOver}
+use Rattle.rw_spec.specs.Tabled.{IsOver}
 use Rattle.rw_terms.specs.declared.code.OpCode.{OpCode}
 use Rattle.rw_rule.specs.RuleLists.{RuleLists}
 use Rattle.rw_docrule.specs.Models.{DocumentLists}

@@ -1,7 +1,7 @@
 //! The run of a document.
 
 ghost use Rattle.std.specs.Prelude.{◌≡◌, ◌++◌, ◌∷◌, ℕ, IfOk, List, Ok, map, length};
-ghost use Rattle.rw_table.specs.Tabled.{IsOver};
+ghost use Rattle.rw_spec.specs.Tabled.{IsOver};
 ghost use Rattle.rw_rule.specs.RuleLists.{RuleLists};
 ghost use Rattle.rw_terms.specs.OpEntries.{entries};
 ghost use Rattle.rw_terms.specs.OpTables.{codes_of};

@@ -6,7 +6,7 @@ use Rattle.rw_schema.specs.Signature.{Signature}
 use Rattle.rw_spec.specs.Instance.{instance_of}
 use Rattle.rw_table.specs.TableFaults.{failure_of, table_fault}
 use Rattle.rw_doc.specs.Instances.{rows_of, empty_instance}
-use Rattle.rw_doc.proofs.Faultless.{none_first}
+use Rattle.rw_schema.proofs.Firsts.{none_first}
 use Rattle.rw_doc.proofs.PartLists.{AreLists, names_at, only_equations_fail}
 
 -- what stands at each place of a list of one thing, or behind it

@@ -9,24 +9,8 @@ use Rattle.std.proofs.lemmas.Option.{slice_get_within}
 use Rattle.rw_schema.specs.First.{first_in, fault_unless}
 use Rattle.rw_schema.specs.SchemaFaults.{is_name, first_twice}
 use Rattle.rw_schema.specs.declared.section.Section.{Section}
-use Rattle.rw_schema.proofs.Firsts.{or_else_none, first_none}
+use Rattle.rw_schema.proofs.Firsts.{or_else_none, first_none, none_from, none_unless}
 use Rattle.rw_schema.proofs.Schemas.{twice_at}
-
--- where no place has a fault there is none
-pub none_first : {X A : Type 0} (f : ℕ → X → Option A) (i : ℕ) (xs : List X)
-    → ((k : ℕ) (x : X) → slice_get xs k ≡ Some x → f (i + k) x ≡ None) → first_in f i xs ≡ None
-none_first f i [] none = refl
-none_first f i (x ∷ xs) none =
-    let here : f i x ≡ None = rw add-zero at (none 0 x refl) in
-    rw here (none_first f (i + 1) xs (λ k y there. let same : (i + 1) + k ≡ i + suc k = omega arith in rw same (none (suc k) y there)))
-
--- items that all pass a test have no fault
-pub none_unless : {X A : Type 0} (test : X → Bool) (fault : ℕ → A) (i : ℕ) (xs : List X)
-    → list_all test xs ≡ true → first_in (λ place x. fault_unless (test x) (fault place)) i xs ≡ None
-none_unless test fault i [] all = refl
-none_unless test fault i (x ∷ xs) all =
-    let parts = and_parts (test x) (list_all test xs) all in
-    rw (parts.0) (none_unless test fault (i + 1) xs parts.1)
 
 -- the first fault of two lists, one behind the other
 first_append : {X A : Type 0} (f : ℕ → X → Option A) (i : ℕ) (xs ys : List X)
@@ -55,7 +39,7 @@ no_names name section = record { named = refl; apart = refl }
 before_apart : {X : Type 0} (name : X → List ℕ) (section : Section) (before : List X) (item : X)
     → first_twice name section before ≡ None → first_in (twice_at name section (before ++ item ∷ [])) 0 before ≡ None
 before_apart name section before item apart =
-    none_first (twice_at name section (before ++ item ∷ [])) 0 before
+    none_from (twice_at name section (before ++ item ∷ [])) 0 before
     (λ k x there. let within : k < length before = slice_get_within before k x there in
     let same : take (0 + k) (before ++ item ∷ []) ≡ take (0 + k) before = take-append-le (0 + k) before (item ∷ []) (omega arith) in
     rw same (first_none (twice_at name section before) 0 before apart k x there))

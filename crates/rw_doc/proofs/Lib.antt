@@ -1,4 +1,5 @@
 pub mod Chains
+pub mod Checked
 pub mod EmptyInstances
 pub mod Faultless
 pub mod FirstFailures

@@ -11,12 +11,12 @@ use Rattle.rw_schema.specs.declared.signature.AttrEnds.{AttrEnds}
 use Rattle.rw_schema.specs.First.{fault_unless, all_in}
 use Rattle.rw_schema.specs.RowLists.{list_at}
 use Rattle.rw_schema.specs.Signature.{Signature}
-use Rattle.rw_schema.proofs.Firsts.{unless_true}
+use Rattle.rw_schema.proofs.Firsts.{unless_true, none_from, none_unless}
 use Rattle.rw_schema.proofs.Lists.{slice_get_mapped}
 use Rattle.rw_table.specs.declared.fault.TableFault.TheVariants as faults
-use Rattle.rw_table.specs.TableFaults.{has_length, has_cells, has_shape, ascends, are_names, names_fault, row_fault, range_fault, is_cell_of, cell_fault, kind_fault, equation_fault, table_fault}
+use Rattle.rw_table.specs.TableFaults.{has_length, has_cells, has_shape, are_names, names_fault, row_fault, range_fault, is_cell_of, cell_fault, kind_fault, equation_fault, table_fault}
+use Rattle.rw_spec.specs.Ascending.{ascends}
 use Rattle.rw_doc.specs.Instances.{rows_of}
-use Rattle.rw_doc.proofs.Faultless.{none_first, none_unless}
 
 -- lists with one image for each part of an arrow's source, each a part of its target, and one cell for each part of an
 -- attribute's object, each of its kind
@@ -102,7 +102,7 @@ names_below count names are =
 -- the names are some
 names_hold : (parts : List ℕ) (arrows : List (List ℕ)) (cells : List (List (Option Atom))) → names_fault (rows_of parts arrows cells) ≡ None
 names_hold parts arrows cells =
-    none_first (λ object names. fault_unless (are_names (slice_index parts object) names) (faults.Names (record { 0 = object }))) 0 (map (range_with_len 0) parts)
+    none_from (λ object names. fault_unless (are_names (slice_index parts object) names) (faults.Names (record { 0 = object }))) 0 (map (range_with_len 0) parts)
     (λ k names there.
     let found = slice_get_mapped (range_with_len 0) parts k names there in
     let count : slice_index parts k ≡ found.0 = get_or_from_slice_get parts k found.0 0 found.1 in
@@ -114,7 +114,7 @@ range_holds : (C : Signature) (parts : List ℕ) (arrows : List (List ℕ)) (cel
     → AreLists C parts arrows cells → range_fault C (rows_of parts arrows cells) ≡ None
 range_holds C parts arrows cells lists =
     let names = map (range_with_len 0) parts in
-    none_first (row_fault (rows_of parts arrows cells)) 0 C.arrows
+    none_from (row_fault (rows_of parts arrows cells)) 0 C.arrows
     (λ a ends there.
     let count = slice_index parts ends.target.0 in
     none_unless (λ image. list_any (λ name. name == image) (list_at names ends.target.0)) (λ position. faults.Range (record { 0 = 0 + a }) position) 0 (list_at arrows (0 + a))
@@ -126,7 +126,7 @@ range_holds C parts arrows cells lists =
 kinds_hold : (C : Signature) (parts : List ℕ) (arrows : List (List ℕ)) (cells : List (List (Option Atom)))
     → AreLists C parts arrows cells → kind_fault C (rows_of parts arrows cells) ≡ None
 kinds_hold C parts arrows cells lists =
-    none_first (cell_fault (rows_of parts arrows cells)) 0 C.attributes
+    none_from (cell_fault (rows_of parts arrows cells)) 0 C.attributes
     (λ c ends there. none_unless (is_cell_of ends.kind) (λ position. faults.Kind (record { 0 = 0 + c }) position) 0 (list_at cells (0 + c))
     (rw (zero-add c) (lists.kinds c ends there)))
 

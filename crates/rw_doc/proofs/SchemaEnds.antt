@@ -7,13 +7,7 @@ use Rattle.rw_schema.specs.declared.signature.ArrowEnds.{ArrowEnds}
 use Rattle.rw_schema.specs.Presentation.{Presentation, signature_of, ends_of_arrow, ends_of_attribute}
 use Rattle.rw_schema.specs.Signature.{Signature, source_of, holder_of}
 use Rattle.rw_spec.specs.Ends.{target_of}
-use Rattle.rw_spec.proofs.Signatures.{source_is, holder_is}
-
--- the target of an arrow is the target in its ends
-pub target_is : (C : Signature) (a : ℕ) (ends : ArrowEnds) → slice_get C.arrows a ≡ Some ends → target_of C a ≡ ends.target.0
-target_is C a ends there =
-    let target = λ (each : ArrowEnds). each.target.0 in
-    get_or_from_slice_get (map target C.arrows) a ends.target.0 0 (slice_get-map target C.arrows a ∙ ap (option_map target) there)
+use Rattle.rw_spec.proofs.Signatures.{source_is, holder_is, target_is}
 
 -- the source of an arrow of a schema
 pub arrow_source : (schema : Presentation) (a : ℕ) (arrow : ArrowDef) → slice_get schema.arrows a ≡ Some arrow → source_of (signature_of schema) a ≡ arrow.source.0

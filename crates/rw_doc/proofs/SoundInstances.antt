@@ -12,7 +12,7 @@ use Rattle.rw_schema.specs.RowLists.{list_at}
 use Rattle.rw_schema.specs.Signature.{Signature, source_of, holder_of}
 use Rattle.rw_schema.proofs.Lists.{list_at_within}
 use Rattle.rw_spec.specs.Ends.{target_of}
-use Rattle.rw_spec.proofs.Signatures.{source_is, holder_is}
+use Rattle.rw_spec.proofs.Signatures.{source_is, holder_is, target_is}
 use Rattle.rw_table.specs.TableFaults.{is_cell_of, table_fault, equation_fault}
 use Rattle.rw_doc.specs.declared.fault.DocFault.{DocFault}
 use Rattle.rw_doc.specs.Chain.{each_in, some_or, checked}
@@ -21,7 +21,6 @@ use Rattle.rw_doc.specs.Instances as spec
 use Rattle.rw_doc.specs.Json.{as_list, as_count, is_null, atom_of, is_short}
 use Rattle.rw_doc.proofs.Chains.{chain, checked_then, each, each_passes, each_long, each_at}
 use Rattle.rw_doc.proofs.PartLists.{AreLists, only_equations_fail}
-use Rattle.rw_doc.proofs.SchemaEnds.{target_is}
 
 -- as many items as are wanted
 long_items : (fault : DocFault) (count : ℕ) (value : Option (List Data)) (items : List Data)

@@ -22,7 +22,8 @@ use Rattle.rw_doc.specs.Faults.{fault_at, fault_of}
 use Rattle.rw_doc.specs.Json.{as_list}
 use Rattle.rw_doc.specs.Schemas
 use Rattle.rw_doc.proofs.Chains.{chain, checked_then, each_passes, each_long, behind, behind_long}
-use Rattle.rw_doc.proofs.Faultless.{IsNew, HasNames, no_names, one_name_more, none_unless}
+use Rattle.rw_doc.proofs.Faultless.{IsNew, HasNames, no_names, one_name_more}
+use Rattle.rw_schema.proofs.Firsts.{none_unless}
 use Rattle.rw_doc.proofs.Named.{object_known, path_known}
 
 -- the list has at most so many items

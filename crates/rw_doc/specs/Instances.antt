@@ -14,7 +14,7 @@ use Rattle.rw_schema.specs.RowLists.{RowLists}
 use Rattle.rw_schema.specs.Signature.{Signature, source_of, holder_of}
 use Rattle.rw_spec.specs.Ends.{target_of}
 use Rattle.rw_spec.specs.Instance as instances
-use Rattle.rw_table.specs.Tabled.{Tabled}
+use Rattle.rw_spec.specs.Tabled.{Tabled}
 use Rattle.rw_doc.specs.declared.fault.DocFault.{DocFault}
 use Rattle.rw_doc.specs.Chain.{and_then, each_in, some_or, checked, unfaulted}
 use Rattle.rw_doc.specs.Faults.{fault_at, fault_of}

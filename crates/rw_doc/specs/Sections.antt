@@ -3,7 +3,7 @@ use Rattle.std.specs.Prelude.{Bool, Option, Result, Ok}
 use Rattle.serde_json.specs.Data.{Data}
 use Rattle.rw_schema.specs.Presentation.{Presentation}
 use Rattle.rw_schema.specs.Signature.{Signature}
-use Rattle.rw_table.specs.Tabled.{Tabled}
+use Rattle.rw_spec.specs.Tabled.{Tabled}
 use Rattle.rw_doc.specs.declared.fault.DocFault.{DocFault}
 use Rattle.rw_doc.specs.Chain.{and_then}
 use Rattle.rw_doc.specs.Instances.{read_parts, read_rows, read_cells, rows_of, with_equations}

@@ -14,7 +14,6 @@ use crate::arrows::arrow_named;
 use crate::faults::{fault_at, refused_at};
 use crate::lists::{items_of, read_list_or_none};
 use crate::objects::object_named;
-use crate::paths::do_sides_meet;
 use crate::{DocFault, ReadDocEnd};
 use rw_schema::{
     ArrowDef, ArrowId, Equation, LONGEST_PATH, MOST_EQUATIONS, ObjectId, Path, Section, Text,

@@ -14,7 +14,6 @@ mod lists;
 mod numbers;
 mod objects;
 mod parts;
-mod paths;
 mod piece;
 mod rows;
 mod schema;

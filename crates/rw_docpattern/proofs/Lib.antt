@@ -1,5 +1,4 @@
 pub mod BareFaults
-pub mod Checked
 pub mod DraftSteps
 pub mod DraftTurns
 pub mod FirstPlaces

@@ -20,7 +20,7 @@ use Rattle.rw_docpattern.specs.Forms.{PatternForm, form_with}
 use Rattle.rw_docpattern.specs.Patterns.{are_parts_there, bare_lists, entries_named, entry_named, fits_atom, is_form_within, is_on_part, read_entries}
 use Rattle.rw_doc.specs.Pieces.{fault_in}
 use Rattle.rw_docpattern.specs.Terms.{is_within_limits}
-use Rattle.rw_docpattern.proofs.Checked.{none_is, passed}
+use Rattle.rw_doc.proofs.Checked.{none_is, passed}
 use Rattle.rw_doc.proofs.Listed.{some_all, some_long}
 
 -- a number that a name has is one of an attribute

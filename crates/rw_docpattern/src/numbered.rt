@@ -8,7 +8,7 @@ ghost use Rattle.rw_docpattern.specs.Sets as spec;
 use crate::variables::number_in;
 use crate::{Entry, WrittenTerm};
 use rw_rule::SetCell;
-use rw_schema::{Names, OutOfMemory};
+use rw_schema::{NameIndex, OutOfMemory};
 use rw_terms::{OpTable, Term};
 use sqlite_items::Boxed;
 use std::alloc::Global;
@@ -35,7 +35,7 @@ fn operation(alloc: Global, number: u32, first: Term, second: Term) -> Result<Te
 fn numbered(
     alloc: Global,
     ops: &OpTable,
-    names: &Names,
+    names: &NameIndex,
     term: WrittenTerm,
 ) -> Result<Term, OutOfMemory>
     requires operations { length (operations ops.now) < 2 ^ 32 }
@@ -55,7 +55,7 @@ fn numbered(
 }
 
 /// The set that the entry is.
-fn set_of(alloc: Global, ops: &OpTable, names: &Names, entry: Entry) -> Result<SetCell, OutOfMemory>
+fn set_of(alloc: Global, ops: &OpTable, names: &NameIndex, entry: Entry) -> Result<SetCell, OutOfMemory>
     requires operations { length (operations ops.now) < 2 ^ 32 }
     requires variables { length names.now ≤ 256 }
     ensures { IfOk result (λ set. set ≡ spec.set_of (operations ops.now) names.now entry) }
@@ -69,7 +69,7 @@ fn set_of(alloc: Global, ops: &OpTable, names: &Names, entry: Entry) -> Result<S
 pub(crate) fn sets_of(
     alloc: Global,
     ops: &OpTable,
-    names: &Names,
+    names: &NameIndex,
     entries: Vec<Entry>,
 ) -> Result<Vec<SetCell>, OutOfMemory>
     requires operations { length (operations ops.now) < 2 ^ 32 }

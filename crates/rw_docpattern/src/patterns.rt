@@ -12,7 +12,7 @@ use crate::build::with_entries;
 use crate::draft::read_draft;
 use rw_doc::{Piece, ReadDocEnd};
 use rw_pattern::Pattern;
-use rw_schema::{Kind, Names, Schema};
+use rw_schema::{Kind, NameIndex, Schema};
 use serde_json::Value;
 use std::alloc::Global;
 
@@ -20,7 +20,7 @@ use std::alloc::Global;
 #[derive(Drop)]
 pub struct PatternRead {
     pub pattern: Pattern,
-    pub variables: Names,
+    pub variables: NameIndex,
     pub kinds: Vec<Kind>,
 }
 

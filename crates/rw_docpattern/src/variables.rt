@@ -8,13 +8,13 @@ ghost use Rattle.rw_docpattern.specs.Numbering.{new_name as new_name_of};
 ghost use Rattle.rw_docpattern.specs.Variables as spec;
 
 use crate::{Entry, WrittenTerm};
-use rw_schema::{Kind, Names, OutOfMemory, Schema, Text};
+use rw_schema::{Kind, NameIndex, OutOfMemory, Schema, Text};
 use std::alloc::Global;
 
 /// The variables of a pattern: their names and their kinds, by their numbers.
 #[derive(Drop)]
 pub(crate) struct Variables {
-    pub(crate) names: Names,
+    pub(crate) names: NameIndex,
     pub(crate) kinds: Vec<Kind>,
 }
 
@@ -29,7 +29,7 @@ fn variable_name(term: &WrittenTerm) -> Option<&Text>
 }
 
 /// The name of a variable that is none of those that were met.
-fn new_name<'t>(names: &Names, term: &'t WrittenTerm) -> Option<&'t Text>
+fn new_name<'t>(names: &NameIndex, term: &'t WrittenTerm) -> Option<&'t Text>
     ensures name { option_map (λ name. name.now) result ≡ new_name_of names.now (spec.variable_name term.now) }
     ensures new { IfSome result (λ name. list_any (bytes_eq name.now) names.now ≡ false) }
 {
@@ -60,7 +60,7 @@ pub(crate) fn variables_of(
     ensures kinds { IfOk result (λ variables. variables.kinds.items ≡ spec.kinds_of schema.now.attributes entries.now) }
     ensures few { IfOk result (λ variables. length variables.names ≤ length entries.now) }
 {
-    let mut names = Names::new(alloc);
+    let mut names = NameIndex::new(alloc);
     let mut kinds = Vec::new(alloc);
     for entry in entries {
         if let Some(name) = new_name(&names, &entry.term) {
@@ -72,7 +72,7 @@ pub(crate) fn variables_of(
 }
 
 /// The number of the name, or the greatest number where it is that of no variable.
-pub(crate) fn number_in(names: &Names, name: &str) -> u32
+pub(crate) fn number_in(names: &NameIndex, name: &str) -> u32
     requires { length names.now ≤ 256 }
     ensures { result ≡ spec.number_in names.now name.now }
 {

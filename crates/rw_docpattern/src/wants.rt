@@ -7,11 +7,11 @@ ghost use Rattle.rw_docpattern.specs.Patterns as spec;
 use crate::variables::number_in;
 use crate::{Entry, WrittenTerm};
 use rw_pattern::{PatternCell, Want};
-use rw_schema::{Names, OutOfMemory};
+use rw_schema::{NameIndex, OutOfMemory};
 use std::alloc::Global;
 
 /// The atom, or the number of the variable; nothing where the term is an operation.
-fn want_of(names: &Names, term: WrittenTerm) -> Option<Want>
+fn want_of(names: &NameIndex, term: WrittenTerm) -> Option<Want>
     requires { length names.now ≤ 256 }
     ensures { result ≡ spec.want_of names.now term }
 {
@@ -23,7 +23,7 @@ fn want_of(names: &Names, term: WrittenTerm) -> Option<Want>
 }
 
 /// The entry with the number of its variable.
-fn cell_of(names: &Names, entry: Entry) -> Option<PatternCell>
+fn cell_of(names: &NameIndex, entry: Entry) -> Option<PatternCell>
     requires { length names.now ≤ 256 }
     ensures { result ≡ spec.cell_of names.now entry }
 {
@@ -35,7 +35,7 @@ fn cell_of(names: &Names, entry: Entry) -> Option<PatternCell>
 /// The entries with the numbers of their variables, or nothing where a term is an operation.
 pub(crate) fn cells_of(
     alloc: Global,
-    names: &Names,
+    names: &NameIndex,
     entries: Vec<Entry>,
 ) -> Result<Option<Vec<PatternCell>>, OutOfMemory>
     requires { length names.now ≤ 256 }

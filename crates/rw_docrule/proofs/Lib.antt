@@ -1,5 +1,4 @@
 mod BuiltRules
-mod Checked
 mod Examples
 mod FirstReadings
 mod Marks

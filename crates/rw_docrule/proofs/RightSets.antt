@@ -19,7 +19,7 @@ use Rattle.rw_docpattern.specs.Patterns.{PatternRead, are_parts_there, bare_list
 use Rattle.rw_docpattern.specs.Patterns as patterns
 use Rattle.rw_doc.specs.Pieces.{fault_in}
 use Rattle.rw_docpattern.specs.Sets.{RightRead, are_sets, fits_left, read_right, set_of, sets_of}
-use Rattle.rw_docrule.proofs.Checked.{none_is, passed}
+use Rattle.rw_doc.proofs.Checked.{none_is, passed}
 
 -- each set has variables of the left pattern alone, is on a part of the right one, and its term fits; none is on a cell that an
 -- earlier one is on

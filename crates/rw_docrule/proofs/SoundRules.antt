@@ -11,14 +11,14 @@ use Rattle.rw_rule.specs.RuleFaults.{is_map, is_sqpo, rule_fault}
 use Rattle.rw_rule.specs.RuleLists.{RuleLists}
 use Rattle.rw_rule.specs.Sets.{fits_set, is_closed, value_missing}
 use Rattle.rw_doc.proofs.Chains.{chain}
-use Rattle.rw_doc.proofs.Faultless.{none_unless}
+use Rattle.rw_schema.proofs.Firsts.{none_unless}
 use Rattle.rw_docpattern.specs.Maps.{read_map}
 use Rattle.rw_docpattern.specs.Patterns.{read_bare_pattern, read_pattern}
 use Rattle.rw_doc.specs.Pieces.{fault_in}
 use Rattle.rw_docpattern.specs.Sets.{read_right}
 use Rattle.rw_docrule.specs.Heads.{RuleHead, RuleMembers}
 use Rattle.rw_docrule.specs.Rules.{Sides, read_l, read_r, read_sides, rule_piece, rule_with}
-use Rattle.rw_docrule.proofs.Checked.{none_is, passed}
+use Rattle.rw_doc.proofs.Checked.{none_is, passed}
 use Rattle.rw_docrule.proofs.ReadMaps.{map_read}
 use Rattle.rw_docrule.proofs.RightSets.{AreSets, sets_read}
 

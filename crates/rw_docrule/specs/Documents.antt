@@ -9,7 +9,7 @@ use Rattle.serde_json.specs.Read.{read}
 use Rattle.rw_schema.specs.declared.section.Section.TheVariants.{Whole}
 use Rattle.rw_schema.specs.Presentation.{Presentation, signature_of}
 use Rattle.rw_schema.specs.Signature.{Signature}
-use Rattle.rw_table.specs.Tabled.{Tabled}
+use Rattle.rw_spec.specs.Tabled.{Tabled}
 use Rattle.rw_terms.specs.OpTables.{OpEntry}
 use Rattle.rw_rule.specs.PlainRules.{is_plain}
 use Rattle.rw_rule.specs.RuleLists.{WatchLists}

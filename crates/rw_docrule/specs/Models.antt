@@ -2,7 +2,7 @@
 use Rattle.std.specs.Prelude.{◌≡◌, ◌≤◌, ℕ, true, List, [], map, length, Option, option_map, IfSome}
 use Rattle.std.specs.List.{All}
 use Rattle.rw_schema.specs.Presentation.{Presentation, signature_of}
-use Rattle.rw_table.specs.Tabled.{Tabled, IsOver}
+use Rattle.rw_spec.specs.Tabled.{Tabled, IsOver}
 use Rattle.rw_rule.specs.PlainRules.{is_plain}
 use Rattle.rw_rule.specs.RuleFaults.{IsGoalOver, IsRuleOver}
 use Rattle.rw_rule.specs.RuleLists.{RuleLists, WatchLists}

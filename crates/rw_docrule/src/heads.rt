@@ -17,7 +17,7 @@ use crate::members::{RuleMembers, WatchMembers};
 use rw_doc::{Piece, ReadDocEnd, has_name_length, items_of};
 use rw_docpattern::{marks_named, texts_or_none};
 use rw_rule::RuleKind;
-use rw_schema::{Names, OutOfMemory, Schema, Text};
+use rw_schema::{NameIndex, OutOfMemory, Schema, Text};
 use serde_json::Value;
 use std::alloc::Global;
 
@@ -143,7 +143,7 @@ fn read_monic(
 pub(crate) fn read_rule_head(
     alloc: Global,
     schema: &Schema,
-    taken: &Names,
+    taken: &NameIndex,
     piece: Piece,
     members: &RuleMembers<'_>,
 ) -> Result<RuleHead, ReadDocEnd>
@@ -172,7 +172,7 @@ pub(crate) fn read_rule_head(
 pub(crate) fn read_watch_head(
     alloc: Global,
     schema: &Schema,
-    taken: &Names,
+    taken: &NameIndex,
     piece: Piece,
     members: &WatchMembers<'_>,
 ) -> Result<WatchHead, ReadDocEnd>

@@ -8,7 +8,7 @@ ghost use Rattle.rw_schema.specs.declared.section.Section.TheVariants.{Whole};
 ghost use Rattle.rw_schema.specs.Presentation.{signature_of};
 ghost use Rattle.rw_terms.specs.OpEntries.{entries};
 ghost use Rattle.rw_rule.specs.RuleParts.{lists_of_watch, rule_of_parts};
-ghost use Rattle.rw_table.specs.Tabled.{IsOver};
+ghost use Rattle.rw_spec.specs.Tabled.{IsOver};
 ghost use Rattle.rw_doc.specs.Chain.{some_or};
 ghost use Rattle.rw_doc.specs.Faults.{fault_of};
 ghost use Rattle.rw_doc.specs.Gives.{Gives};
@@ -29,7 +29,7 @@ use rw_doc::{
 };
 use rw_docspan::{Cospan, Span, read_cospan, read_span};
 use rw_rule::Watch;
-use rw_schema::{Names, Schema, Section};
+use rw_schema::{NameIndex, Schema, Section};
 use rw_table::Table;
 use rw_terms::OpTable;
 use serde_json::Value;
@@ -177,7 +177,7 @@ fn read_others(
     ensures gives { Gives document_lists result (spec.read_others (entries ops.now) schema table (view value.now)) }
     ensures sound { IfOk result (λ document. IsSound (length (entries ops.now)) (document_lists document)) }
 {
-    let mut names = Names::new(alloc);
+    let mut names = NameIndex::new(alloc);
     let rules = read_rules(alloc, &schema, ops, &mut names, value.get("rules"))?;
     let watches = read_watches(alloc, &schema, &mut names, value.get("watches"))?;
     read_spans(alloc, ops, schema, table, rules, watches, value)

@@ -25,7 +25,7 @@ use rw_docpattern::{
 };
 use rw_pattern::Pattern;
 use rw_rule::{Goal, RuleKind, RuleParts, first_value_missing, is_one_to_one};
-use rw_schema::{Names, PartMap, Schema, Section};
+use rw_schema::{NameIndex, PartMap, Schema, Section};
 use rw_terms::OpTable;
 use serde_json::Value;
 use std::alloc::Global;
@@ -181,7 +181,7 @@ fn read_pieces(
     alloc: Global,
     schema: &Schema,
     ops: &OpTable,
-    taken: &Names,
+    taken: &NameIndex,
     place: u32,
     members: &RuleMembers<'_>,
 ) -> Result<RuleRead, ReadDocEnd>
@@ -205,7 +205,7 @@ fn read_rule(
     alloc: Global,
     schema: &Schema,
     ops: &OpTable,
-    taken: &Names,
+    taken: &NameIndex,
     place: u32,
     value: &Value,
 ) -> Result<RuleRead, ReadDocEnd>
@@ -226,7 +226,7 @@ fn rules_of(
     alloc: Global,
     schema: &Schema,
     ops: &OpTable,
-    names: &mut Names,
+    names: &mut NameIndex,
     items: &[Value],
 ) -> Result<Vec<RuleRead>, ReadDocEnd>
     requires operations { length (entries ops.now) < 2 ^ 32 }
@@ -251,7 +251,7 @@ pub(crate) fn read_rules(
     alloc: Global,
     schema: &Schema,
     ops: &OpTable,
-    names: &mut Names,
+    names: &mut NameIndex,
     value: Option<&Value>,
 ) -> Result<Vec<RuleRead>, ReadDocEnd>
     requires operations { length (entries ops.now) < 2 ^ 32 }

@@ -20,7 +20,7 @@ use crate::members::{WatchMembers, watch_members};
 use rw_doc::{Piece, ReadDocEnd, read_list_or_none};
 use rw_docpattern::read_pattern;
 use rw_rule::{Goal, Watch};
-use rw_schema::{Names, Schema, Section};
+use rw_schema::{NameIndex, Schema, Section};
 use serde_json::Value;
 use std::alloc::Global;
 
@@ -42,7 +42,7 @@ fn watch_piece(watch: u32, piece: u32) -> Piece
 fn read_pieces(
     alloc: Global,
     schema: &Schema,
-    taken: &Names,
+    taken: &NameIndex,
     place: u32,
     members: &WatchMembers<'_>,
 ) -> Result<Watch, ReadDocEnd>
@@ -68,7 +68,7 @@ fn read_pieces(
 fn read_watch(
     alloc: Global,
     schema: &Schema,
-    taken: &Names,
+    taken: &NameIndex,
     place: u32,
     value: &Value,
 ) -> Result<Watch, ReadDocEnd>
@@ -87,7 +87,7 @@ fn read_watch(
 fn watches_of(
     alloc: Global,
     schema: &Schema,
-    names: &mut Names,
+    names: &mut NameIndex,
     items: &[Value],
 ) -> Result<Vec<Watch>, ReadDocEnd>
     requires few { length items.now ≤ 64 }
@@ -108,7 +108,7 @@ fn watches_of(
 pub(crate) fn read_watches(
     alloc: Global,
     schema: &Schema,
-    names: &mut Names,
+    names: &mut NameIndex,
     value: Option<&Value>,
 ) -> Result<Vec<Watch>, ReadDocEnd>
     ensures gives { Gives (λ watches. map lists_of_watch watches.items) result (spec.read_watches schema.now names.old (option_map (λ value. view value.now) value.entry)) }

@@ -14,7 +14,7 @@ use Rattle.rw_schema.specs.RowLists.{RowLists, list_at}
 use Rattle.rw_schema.specs.Signature.{Signature}
 use Rattle.rw_schema.proofs.Lists.{list_at_within, length_map_in, get_or_map_in}
 use Rattle.rw_spec.proofs.Sequences.{all_in_at}
-use Rattle.rw_table.specs.Tabled.{Tabled}
+use Rattle.rw_spec.specs.Tabled.{Tabled}
 use Rattle.rw_table.specs.TableFaults.{is_cell_of, table_fault, equation_fault}
 use Rattle.rw_doc.specs.declared.end.ReadDocEnd.{ReadDocEnd}
 use Rattle.rw_doc.specs.Chain.{and_then, all_some, some_or, checked}

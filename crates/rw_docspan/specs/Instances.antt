@@ -11,7 +11,7 @@ use Rattle.rw_schema.specs.Atoms.{is_of_kind}
 use Rattle.rw_schema.specs.First.{all_in, map_in}
 use Rattle.rw_schema.specs.RowLists.{list_at}
 use Rattle.rw_schema.specs.Signature.{Signature}
-use Rattle.rw_table.specs.Tabled.{Tabled}
+use Rattle.rw_spec.specs.Tabled.{Tabled}
 use Rattle.rw_table.specs.TableFaults.{equation_fault}
 use Rattle.rw_doc.specs.declared.fault.DocFault.{DocFault}
 use Rattle.rw_doc.specs.Chain.{and_then, all_some, some_or, checked}

@@ -2,7 +2,7 @@
 use Rattle.std.specs.Prelude.{◌==◌, ℕ, length, List, option_map, Result}
 use Rattle.serde_json.specs.Data.{Data}
 use Rattle.rw_schema.specs.Signature.{Signature}
-use Rattle.rw_table.specs.Tabled.{Tabled, instance_of_table}
+use Rattle.rw_spec.specs.Tabled.{Tabled, instance_of_table}
 use Rattle.rw_map.specs.declared.fault.HomFault.{HomFault}
 use Rattle.rw_map.specs.declared.fault.HomFault.TheVariants.{Shape, Range, NotNatural, Cell}
 use Rattle.rw_map.specs.HomFaults.{hom_fault}

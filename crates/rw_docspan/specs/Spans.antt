@@ -4,7 +4,7 @@ use Rattle.serde_json.specs.Data.{Data}
 use Rattle.serde_json.specs.Find.{get}
 use Rattle.rw_schema.specs.declared.section.Section.TheVariants as sections
 use Rattle.rw_schema.specs.Signature.{Signature}
-use Rattle.rw_table.specs.Tabled.{Tabled, instance_of_table}
+use Rattle.rw_spec.specs.Tabled.{Tabled, instance_of_table}
 use Rattle.rw_map.specs.Homs.{IsHom}
 use Rattle.rw_doc.specs.declared.fault.DocFault.{DocFault}
 use Rattle.rw_doc.specs.Chain.{and_then, some_or}

@@ -3,7 +3,7 @@
 ghost use Rattle.std.specs.Prelude.{◌≡◌, IfOk, Ok, option_map};
 ghost use Rattle.serde_json.specs.View.{view};
 ghost use Rattle.rw_schema.specs.Presentation.{signature_of};
-ghost use Rattle.rw_table.specs.Tabled.{IsOver};
+ghost use Rattle.rw_spec.specs.Tabled.{IsOver};
 ghost use Rattle.rw_doc.specs.Chain.{and_then};
 ghost use Rattle.rw_doc.specs.Gives.{Gives};
 ghost use Rattle.rw_docspan.specs.Maps as maps;

@@ -5,7 +5,7 @@ ghost use Rattle.serde_json.specs.View.{view};
 ghost use Rattle.rw_schema.specs.First.{all_in};
 ghost use Rattle.rw_schema.specs.Presentation.{signature_of};
 ghost use Rattle.rw_table.specs.TableFaults.{table_fault};
-ghost use Rattle.rw_table.specs.Tabled.{IsOver};
+ghost use Rattle.rw_spec.specs.Tabled.{IsOver};
 ghost use Rattle.rw_doc.specs.Chain.{and_then, checked, some_or};
 ghost use Rattle.rw_doc.specs.Gives.{Gives};
 ghost use Rattle.rw_doc.specs.Pieces.{fault_in};

@@ -9,41 +9,16 @@ use Rattle.rw_schema.specs.declared.signature.ArrowEnds.{ArrowEnds}
 use Rattle.rw_schema.specs.First.{first_in, fault_unless, all_in}
 use Rattle.rw_schema.specs.RowLists.{RowLists, list_at}
 use Rattle.rw_schema.specs.Signature.{Signature, IsCategory}
-use Rattle.rw_schema.proofs.Firsts.{unless_true}
+use Rattle.rw_schema.proofs.Firsts.{unless_true, none_from}
 use Rattle.rw_schema.proofs.Lists.{list_at_map, length_map_in, get_or_map_in}
 use Rattle.rw_spec.specs.Cocone.{Frame}
 use Rattle.rw_spec.proofs.Sequences.{all_in_from_each}
-use Rattle.rw_table.specs.TableFaults.{ascends, are_names, has_length, has_cells, has_shape, names_fault}
+use Rattle.rw_table.specs.TableFaults.{are_names, has_length, has_cells, has_shape, names_fault}
+use Rattle.rw_spec.specs.Ascending.{ascends}
 use Rattle.rw_table.specs.declared.fault.TableFault.{TableFault}
 use Rattle.rw_table.specs.declared.fault.TableFault.TheVariants.{Names}
+use Rattle.rw_table.proofs.Numbered.{range_named}
 use Rattle.rw_limits.specs.Spans.{value_place, class_row_at, class_names, AreClassLists}
-
--- there is no first fault where no item has one
-none_from : {X A : Type 0} (f : ℕ → X → Option A) (i : ℕ) (xs : List X)
-    → ((k : ℕ) (x : X) → slice_get xs k ≡ Some x → f (i + k) x ≡ None) → first_in f i xs ≡ None
-none_from f i [] each = refl
-none_from f i (x ∷ xs) each =
-    let here : f i x ≡ None = rw add-zero at (each zero x refl) in
-    let later : first_in f (i + 1) xs ≡ None =
-    none_from f (i + 1) xs (λ k y there.
-    let same : i + suc k ≡ (i + 1) + k = omega arith in
-    rw (← same) (each (suc k) y there)) in
-    rw (here, later) refl
-
--- numbers in a row ascend
-range_ascends : (a n : ℕ) → ascends (range_with_len a n) ≡ true
-range_ascends a zero = refl
-range_ascends a (suc zero) = refl
-range_ascends a (suc (suc n)) = rw (lt-ltb a (a + 1) (omega arith)) (range_ascends (a + 1) (suc n))
-
--- numbers in a row are below their end
-range_below : (a n end : ℕ) → a + n ≤ end → list_all (λ name. nat_lt name end) (range_with_len a n) ≡ true
-range_below a zero end within = refl
-range_below a (suc n) end within = rw (lt-ltb a end (omega arith)) (range_below (a + 1) n end (omega arith))
-
--- the numbers from 0 are names below their number
-range_names : (n : ℕ) → are_names n (range_with_len 0 n) ≡ true
-range_names n = rw (range_ascends 0 n) (range_below 0 n n (omega arith))
 
 -- the lists of classes
 module _ (C : Signature) (category : IsCategory C) (F : Frame) (left right : RowLists) (numbers firsts : List (List ℕ)) (firsts_long : length firsts ≡ C.objects)
@@ -103,4 +78,4 @@ module _ (C : Signature) (category : IsCategory C) (F : Frame) (left right : Row
         ap (λ all. slice_index all object) lists.next ∙ get_or-map length firsts object [] 0 within in
         rw (zero-add object)
         (unless_true (are_names (slice_index rows.next object) names) (Names (record { 0 = object }))
-        (rw (next_is, ← names_are) (range_names (length (list_at firsts object))))))
+        (rw (next_is, ← names_are) (range_named (length (list_at firsts object))))))

@@ -6,7 +6,7 @@ use Rattle.rw_spec.specs.Distinct.{AreDistinct}
 use Rattle.rw_spec.specs.Homomorphism.{map_of}
 use Rattle.rw_spec.specs.Instance.{IsInstance, instance_of}
 use Rattle.rw_spec.specs.Pullback.{Cospan}
-use Rattle.rw_table.specs.Tabled.{Tabled, instance_of_table}
+use Rattle.rw_spec.specs.Tabled.{Tabled, instance_of_table}
 use Rattle.rw_table.specs.TableFaults.{table_fault}
 use Rattle.rw_table.proofs.Checked.{names_apart}
 use Rattle.rw_table.proofs.TableInstance.{table_instance}

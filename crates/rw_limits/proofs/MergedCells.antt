@@ -13,16 +13,18 @@ use Rattle.rw_schema.proofs.Lists.{get_or_map_in}
 use Rattle.rw_spec.specs.Instance.{look}
 use Rattle.rw_spec.proofs.Signatures.{holder_is}
 use Rattle.rw_table.proofs.Checked.{checked_known, shape_known, names_apart, cells_whole}
-use Rattle.rw_limits.specs.Clashes.{both_cells, CanMerge, MergesAt, MergesEach, IsFirstOf, FirstOf, first_cell, merged_cells}
-use Rattle.rw_limits.specs.Merging.{AreMerged, cell_at}
-use Rattle.rw_limits.specs.Pushouts.{count_at, cell_of, either, AreClassesOf, IsEarlierPlace, IsClashAt, IsFirstClash}
+use Rattle.rw_limits.specs.ClassTables.{first_cell, merged_cells}
+use Rattle.rw_classes.specs.Clashes.{both_cells, CanMerge, MergesAt, MergesEach, IsFirstOf, FirstOf}
+use Rattle.rw_classes.specs.Merging.{AreMerged, IsClash, cell_at}
+use Rattle.rw_classes.specs.FirstClash.{AreClassesOf, IsEarlierPlace, IsClashAt, IsFirstClash}
+use Rattle.rw_classes.specs.Places.{count_at, cell_of, either}
 use Rattle.rw_limits.specs.Spans.{span_frame, IsSpan, AreClassCells}
-use Rattle.rw_limits.specs.declared.class_cells.ClashAt.{ClashAt}
-use Rattle.rw_limits.specs.declared.merge.Difference.{Difference}
-use Rattle.rw_limits.specs.declared.merge.Merged.{Merged}
-use Rattle.rw_limits.specs.declared.merge.Merged.TheVariants.{Firsts, Differ}
-use Rattle.rw_limits.proofs.Clashes.{cells_beside_names, clash_of_parts, clash_of_cells, no_clash_merged, atom_of_first}
-use Rattle.rw_limits.proofs.Merging.{first_or_none}
+use Rattle.rw_classes.specs.declared.clashes.ClashAt.{ClashAt}
+use Rattle.rw_classes.specs.declared.merge.Difference.{Difference}
+use Rattle.rw_classes.specs.declared.merge.Merged.{Merged}
+use Rattle.rw_classes.specs.declared.merge.Merged.TheVariants.{Firsts, Differ}
+use Rattle.rw_classes.proofs.Clashes.{cells_beside_names, clash_of_same, no_clash_merged, atom_of_first}
+use Rattle.rw_classes.proofs.Merging.{first_or_none}
 
 -- the cells of the classes are those of their first parts that have atoms
 class_cells_from : (cells : ℕ → Option Atom) (list : List (Option Atom)) (count : ℕ) (numbers firsts : List ℕ) (places : List (Option ℕ))
@@ -135,19 +137,27 @@ module _ (C : Signature) (apex left right : RowLists) (f g : List (List ℕ)) (s
             (class_cells_from (cell_of (span_frame C apex left right f g) object c) (both_cells left right c) (count_at (span_frame C apex left right f g) object)
             (list_at numbers object) (list_at firsts object) places.items numbered.each numbered.within (cells_are c ends there) merges)
 
+    -- a clash of the parts is a clash among the cells of both lists
+    clash_among_lists : (c w : ℕ) (ends : AttrEnds) (a b : Atom) → slice_get C.attributes c ≡ Some ends
+        → (clash : IsClashAt (span_frame C apex left right f g) (list_at numbers ends.object.0) ends.object.0 c w a b)
+        → IsClash (cell_at (both_cells left right c)) (list_at numbers ends.object.0) w clash.0 clash.1 a b
+    clash_among_lists c w ends a b there (first, second, clash) =
+        clash_of_same (cell_of (span_frame C apex left right f g) ends.object.0 c) (cell_at (both_cells left right c)) (list_at numbers ends.object.0) w first second a b
+        (λ e within. sym (cells_are c ends there e within)) clash
+
     -- a clash that is not before the first of all attributes' merges is not before it
     not_earlier : (each : Merged) (c w : ℕ) (ends : AttrEnds) (a b : Atom) (object' w' c' : ℕ) → slice_get C.attributes c ≡ Some ends
         → MergesAt left right numbers firsts c ends each
         → ((difference : Difference) → each ≡ Differ difference → IsEarlierPlace ends.object.0 difference.class c object' w' c' → ⊥)
         → IsClashAt (span_frame C apex left right f g) (list_at numbers ends.object.0) ends.object.0 c w a b → IsEarlierPlace ends.object.0 w c object' w' c' → ⊥
     not_earlier (Firsts places) c w ends a b object' w' c' there merges least clash before =
-        no_clash_merged (cell_at (both_cells left right c)) (list_at numbers ends.object.0) (length (list_at firsts ends.object.0)) places.items w clash.first clash.second a b merges
-        (clash_of_cells (span_frame C apex left right f g) ends.object.0 c (cell_at (both_cells left right c)) (list_at numbers ends.object.0) w a b (cells_are c ends there) clash)
+        no_clash_merged (cell_at (both_cells left right c)) (list_at numbers ends.object.0) (length (list_at firsts ends.object.0)) places.items w clash.0 clash.1 a b merges
+        (clash_among_lists c w ends a b there clash)
     not_earlier (Differ difference) c w ends a b object' w' c' there merges least clash before =
         elim (cases_lt w difference.class) [
           | inl earlier ↦
-              merges.1 w clash.first clash.second a b earlier
-              (clash_of_cells (span_frame C apex left right f g) ends.object.0 c (cell_at (both_cells left right c)) (list_at numbers ends.object.0) w a b (cells_are c ends there) clash)
+              merges.1 w clash.0 clash.1 a b earlier
+              (clash_among_lists c w ends a b there clash)
           | inr later ↦ least difference refl (before_lower ends.object.0 w c object' w' c' difference.class later before)
         ]
 
@@ -167,8 +177,12 @@ module _ (C : Signature) (apex left right : RowLists) (f g : List (List ℕ)) (s
         let merges_here : MergesAt left right numbers firsts c ends (Differ clash.difference) = subst (λ each. MergesAt left right numbers firsts c ends each) differs found.2 in
         let there = merges_here.0 in
         let parts_clash : IsClashAt F (list_at numbers ends.object.0) ends.object.0 c clash.difference.class there.0 there.1 =
-        clash_of_parts F ends.object.0 c (cell_at (both_cells left right c)) (list_at numbers ends.object.0) clash.difference.class clash.difference.first clash.difference.second there.0 there.1
-        (cells_are c ends first.there) there.2 in
+        (
+          clash.difference.first,
+          clash.difference.second,
+          clash_of_same (cell_at (both_cells left right c)) (cell_of F ends.object.0 c) (list_at numbers ends.object.0) clash.difference.class clash.difference.first clash.difference.second
+              there.0 there.1 (cells_are c ends first.there) there.2,
+        ) in
         let a_is : there.0 ≡ a = one_atom (cell_at (both_cells left right c) clash.difference.first) there.0 a there.2.first_atom first_atom in
         let b_is : there.1 ≡ b = one_atom (cell_at (both_cells left right c) clash.difference.second) there.1 b there.2.second_atom second_atom in
         record {

@@ -11,23 +11,27 @@ use Rattle.rw_spec.specs.Instance.{Instance, IsInstance, instance_of}
 use Rattle.rw_table.proofs.Checked.{checked_known, shape_known, names_apart}
 use Rattle.rw_table.proofs.TableInstance.{table_instance}
 use Rattle.rw_universal.proofs.Gluing.{pushout_from_gluing}
-use Rattle.rw_limits.specs.Classes.{AreNumbered}
-use Rattle.rw_limits.specs.Clashes.{both_cells, class_table, merged_cells, MergesEach, IsFirstOf, FirstOf, IsFaultOf, CanAssemble}
-use Rattle.rw_limits.specs.Merging.{cell_at}
-use Rattle.rw_limits.specs.Pushouts.{count_at, AreClassesOf, IsPushoutOf, PushesOut}
-use Rattle.rw_limits.specs.Spans.{span_frame, IsSpan, AreClassesBy, number_lists, first_lists, left_classes, right_classes, AreClassLists}
-use Rattle.rw_limits.specs.declared.class_cells.ClashAt.{ClashAt}
-use Rattle.rw_limits.specs.declared.classes.Classes.{Classes}
+use Rattle.rw_classes.specs.Classes.{AreNumbered}
+use Rattle.rw_limits.specs.ClassTables.{class_table, merged_cells, IsFaultOf, CanAssemble}
+use Rattle.rw_classes.specs.Clashes.{both_cells, MergesEach, IsFirstOf, FirstOf}
+use Rattle.rw_classes.specs.Merging.{cell_at}
+use Rattle.rw_limits.specs.Pushouts.{IsPushoutOf, PushesOut}
+use Rattle.rw_classes.specs.FirstClash.{AreClassesOf}
+use Rattle.rw_classes.specs.Places.{count_at}
+use Rattle.rw_limits.specs.Spans.{span_frame, IsSpan, left_classes, right_classes, AreClassLists}
+use Rattle.rw_classes.specs.ClassLists.{AreClassesBy, number_lists, first_lists}
+use Rattle.rw_classes.specs.declared.clashes.ClashAt.{ClashAt}
+use Rattle.rw_classes.specs.declared.classes.Classes.{Classes}
 use Rattle.rw_limits.specs.declared.colimit.GlueFault.{GlueFault}
 use Rattle.rw_limits.specs.declared.colimit.GlueFault.TheVariants.{Clash, OutOfMemory}
 use Rattle.rw_limits.specs.declared.colimit.PushoutResult.{PushoutResult}
-use Rattle.rw_limits.specs.declared.merge.Merged.{Merged}
+use Rattle.rw_classes.specs.declared.merge.Merged.{Merged}
 use Rattle.rw_limits.proofs.ClassInstance.{glued_lists}
-use Rattle.rw_limits.proofs.ClassLists.{classes_at_most, classes_few}
+use Rattle.rw_classes.proofs.ClassLists.{classes_at_most, classes_few}
 use Rattle.rw_limits.proofs.ClassShape.{shape_of_classes, names_of_classes}
-use Rattle.rw_limits.proofs.Glue.{gluing_from_classes}
+use Rattle.rw_classes.proofs.Glue.{gluing_from_classes}
 use Rattle.rw_limits.proofs.MergedCells.{cells_of_classes, first_clash_is}
-use Rattle.rw_limits.proofs.NoCocone.{no_cocone}
+use Rattle.rw_classes.proofs.NoCocone.{no_cocone}
 use Rattle.rw_limits.proofs.Sound.{sound_from_instance}
 use Rattle.rw_limits.proofs.Spans.{classes_of_frame, entry_of_map_in, has_class_values}
 

@@ -9,7 +9,7 @@ use Rattle.rw_schema.specs.declared.signature.AttrEnds.{AttrEnds}
 use Rattle.rw_schema.specs.First.{first_in, fault_unless, map_in, all_in}
 use Rattle.rw_schema.specs.RowLists.{RowLists, list_at}
 use Rattle.rw_schema.specs.Signature.{Signature, IsCategory}
-use Rattle.rw_schema.proofs.Firsts.{first_none, passed_unless, unless_true}
+use Rattle.rw_schema.proofs.Firsts.{first_none, passed_unless, unless_true, none_from}
 use Rattle.rw_spec.specs.Distinct.{AreDistinct}
 use Rattle.rw_spec.specs.Instance.{IsInstance, instance_of, look}
 use Rattle.rw_spec.proofs.Look.{look_at}
@@ -17,7 +17,7 @@ use Rattle.rw_spec.proofs.Sequences.{all_in_from_each}
 use Rattle.rw_spec.proofs.Signatures.{source_is, holder_is}
 use Rattle.rw_table.specs.TableFaults.{has_length, has_cells, has_shape, are_names, names_fault, table_fault}
 use Rattle.rw_table.specs.declared.fault.TableFault.TheVariants.{Names}
-use Rattle.rw_table.proofs.Ascending.{ascends_distinct}
+use Rattle.rw_spec.proofs.Ascending.{ascends_distinct}
 use Rattle.rw_table.proofs.Checked.{shape_known, row_whole, cells_whole, names_ascend}
 use Rattle.rw_table.proofs.Listed.{listed, listed_unfaulted}
 
@@ -88,18 +88,6 @@ lists_listed C rows shaped named =
     ∙ ap (λ object. map (look None (list_at rows.names object) cells) holders) (sym (holder_is C c ends there)))) in
     let next = fill_by_all (slice_index rows.next) rows.next C.objects 0 shape.next (λ k below. refl) in
     same_rows rows (listed C X (slice_index rows.next)) names arrows cells next
-
--- there is no first fault where no item has one
-none_from : {X A : Type 0} (f : ℕ → X → Option A) (i : ℕ) (xs : List X)
-    → ((k : ℕ) (x : X) → slice_get xs k ≡ Some x → f (i + k) x ≡ None) → first_in f i xs ≡ None
-none_from f i [] each = refl
-none_from f i (x ∷ xs) each =
-    let here : f i x ≡ None = rw add-zero at (each 0 x refl) in
-    let later : first_in f (i + 1) xs ≡ None =
-    none_from f (i + 1) xs (λ k y there.
-    let same : (i + 1) + k ≡ i + suc k = omega arith in
-    rw same (each (suc k) y there)) in
-    rw (here, later) refl
 
 -- names have no fault where those of each object ascend below its next name
 pub names_unfaulted : (rows : RowLists)

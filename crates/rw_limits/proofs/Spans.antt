@@ -15,14 +15,17 @@ use Rattle.rw_spec.specs.Distinct.{AreDistinct}
 use Rattle.rw_spec.specs.Homomorphism.{map_of}
 use Rattle.rw_spec.specs.Instance.{instance_of}
 use Rattle.rw_spec.proofs.Look.{look_at}
-use Rattle.rw_table.specs.Tabled.{Tabled, instance_of_table}
+use Rattle.rw_spec.specs.Tabled.{Tabled, instance_of_table}
 use Rattle.rw_table.specs.TableFaults.{table_fault}
 use Rattle.rw_table.proofs.Checked.{checked_known, shape_known, names_ascend, names_apart, row_whole, images_named}
 use Rattle.rw_map.specs.Homs.{IsHom}
-use Rattle.rw_limits.specs.Classes.{AreClasses}
-use Rattle.rw_limits.specs.Pushouts.{spot, frame_of, count_at, joined_at, AreClassesOf}
-use Rattle.rw_limits.specs.Spans.{span_frame, IsSpan, joined_by, part_count, AreJoinable, AreClassesBy, value_place, HasClassValues}
-use Rattle.rw_limits.proofs.Sides.{spot_within, either_left, either_right}
+use Rattle.rw_classes.specs.Classes.{AreClasses}
+use Rattle.rw_limits.specs.Pushouts.{frame_of}
+use Rattle.rw_classes.specs.FirstClash.{AreClassesOf}
+use Rattle.rw_classes.specs.Places.{spot, count_at, joined_at}
+use Rattle.rw_limits.specs.Spans.{span_frame, IsSpan, value_place, HasClassValues}
+use Rattle.rw_classes.specs.ClassLists.{joined_by, part_count, AreJoinable, AreClassesBy}
+use Rattle.rw_classes.proofs.Sides.{spot_within, either_left, either_right}
 
 -- what a map with places gives at a place
 pub entry_of_map_in : {X A : Type 0} (h : ℕ → X → A) (xs : List X) (k : ℕ) (d : X) (e : A) → k < length xs → get_or (map_in h 0 xs) k e ≡ h k (get_or xs k d)

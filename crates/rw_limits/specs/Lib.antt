@@ -1,9 +1,5 @@
-pub mod Clashes
-pub mod Classes
+pub mod ClassTables
 pub mod Fibers
-pub mod Glued
-pub mod Links
-pub mod Merging
 pub mod PairLists
 pub mod Pairs
 pub mod Pullbacks

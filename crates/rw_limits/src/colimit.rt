@@ -2,19 +2,19 @@
 
 ghost use Rattle.std.specs.Prelude.{◌≡◌, ◌<◌, ◌^◌, ℕ, IfOk};
 ghost use Rattle.rw_schema.specs.Presentation.{signature_of};
-ghost use Rattle.rw_table.specs.Tabled.{IsOver, instance_of_table};
+ghost use Rattle.rw_spec.specs.Tabled.{IsOver, instance_of_table};
 ghost use Rattle.rw_map.specs.Homs.{IsHom};
-ghost use Rattle.rw_limits.specs.Clashes.{CanAssemble, class_table};
-ghost use Rattle.rw_limits.specs.Pushouts.{PushesOut, count_at, frame_of};
-ghost use Rattle.rw_limits.specs.Spans.{number_lists, first_lists, left_classes, right_classes};
+ghost use Rattle.rw_limits.specs.ClassTables.{CanAssemble, class_table};
+ghost use Rattle.rw_limits.specs.Pushouts.{PushesOut, frame_of};
+ghost use Rattle.rw_classes.specs.Places.{count_at};
+ghost use Rattle.rw_limits.specs.Spans.{left_classes, right_classes};
+ghost use Rattle.rw_classes.specs.ClassLists.{number_lists, first_lists};
 ghost use Rattle.rw_limits.specs.declared.colimit.GlueFault.TheVariants as faults;
 
-use crate::class_cells::{class_cells, fault_of, first_clash, merge_each};
+use crate::class_cells::{class_cells, fault_of};
 use crate::class_names::{class_counts, left_lists, name_lists, right_lists};
 use crate::class_rows::class_rows;
-use crate::classes::Classes;
-use crate::joined::class_lists;
-use crate::merge::Merged;
+use rw_classes::{Classes, Merged, class_lists, first_clash, merge_each};
 use rw_schema::{Atom, AttrId, ObjectId, OutOfMemory, PartMap, Rows, Schema};
 use rw_table::Table;
 use std::alloc::{AllocError, AllocFailed, Global};

@@ -13,7 +13,7 @@ use Rattle.rw_spec.proofs.Signatures.{source_is, holder_is}
 use Rattle.rw_spec.specs.Natural.{Map}
 use Rattle.rw_table.specs.TableFaults.{table_fault}
 use Rattle.rw_map.specs.HomFaults.{commutes_at, goes_to, keeps_at}
-use Rattle.rw_table.proofs.Ascending.{ascends_distinct}
+use Rattle.rw_spec.proofs.Ascending.{ascends_distinct}
 use Rattle.rw_table.proofs.Checked.{checked_known, names_ascend, row_whole, cells_whole}
 
 -- the names of each object of a table are different

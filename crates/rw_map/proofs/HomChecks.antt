@@ -23,7 +23,7 @@ use Rattle.rw_map.specs.HomFaults.{has_images, shape_fault, stray_image, image_f
 use Rattle.rw_map.specs.Homs.{HasImages, IsHom}
 use Rattle.rw_map.proofs.Atoms.{atom_kept, kept_from}
 use Rattle.rw_map.proofs.Entries.{image_at}
-use Rattle.rw_map.proofs.Faults.{none_at, none_from_each}
+use Rattle.rw_schema.proofs.Firsts.{none_at, none_from_each}
 use Rattle.rw_map.proofs.Objects.{object_none, objects_none}
 
 -- a name stands at a place

@@ -2,6 +2,5 @@ pub mod Atoms
 pub mod Composites
 pub mod Ends
 pub mod Entries
-pub mod Faults
 pub mod HomChecks
 pub mod Objects

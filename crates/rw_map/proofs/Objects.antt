@@ -5,7 +5,7 @@ use Rattle.std.proofs.lemmas.List.FromFn.{length-range_with_len, get_or-range_wi
 use Rattle.std.proofs.lemmas.Option.{slice_get-get_or, slice_get_within, get_or_from_slice_get}
 use Rattle.rw_schema.specs.First.{first_in}
 use Rattle.rw_schema.proofs.Firsts.{first_here, first_next, first_past}
-use Rattle.rw_map.proofs.Faults.{none_at, none_from_each}
+use Rattle.rw_schema.proofs.Firsts.{none_at, none_from_each}
 
 -- an object is within the list of all
 object_within : (n object : ℕ) → object < n → object < length (range_with_len 0 n)

@@ -5,7 +5,7 @@ ghost use Rattle.rw_schema.specs.RowLists.{list_at};
 ghost use Rattle.rw_spec.specs.Homomorphism.{IsHomomorphism, after, map_of};
 ghost use Rattle.rw_spec.specs.Instance.{Instance};
 ghost use Rattle.rw_spec.specs.Natural.{SameOn};
-ghost use Rattle.rw_table.specs.Tabled.{instance_of_table};
+ghost use Rattle.rw_spec.specs.Tabled.{instance_of_table};
 ghost use Rattle.rw_map.specs.Homs.{HasImages, IsMap, IsHom, composite};
 
 use crate::look::image_of;

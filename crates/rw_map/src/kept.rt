@@ -5,7 +5,7 @@ ghost use Rattle.std.specs.Option.{option_map};
 ghost use Rattle.rw_schema.specs.First.{first_in};
 ghost use Rattle.rw_schema.specs.Presentation.{signature_of, ends_of_attribute};
 ghost use Rattle.rw_spec.specs.Homomorphism.{map_of};
-ghost use Rattle.rw_table.specs.Tabled.{IsOver, instance_of_table};
+ghost use Rattle.rw_spec.specs.Tabled.{IsOver, instance_of_table};
 ghost use Rattle.rw_map.specs.HomFaults.{goes_to as is_kept, keeps_at as is_kept_at, lost_cell};
 ghost use Rattle.rw_map.specs.Homs.{HasImages};
 

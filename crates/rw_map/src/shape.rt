@@ -2,7 +2,7 @@
 
 ghost use Rattle.std.specs.Prelude.{◌≡◌, ◌<◌};
 ghost use Rattle.rw_schema.specs.Presentation.{signature_of};
-ghost use Rattle.rw_table.specs.Tabled.{IsOver, instance_of_table};
+ghost use Rattle.rw_spec.specs.Tabled.{IsOver, instance_of_table};
 ghost use Rattle.rw_map.specs.HomFaults.{has_images as has_image_list, shape_fault};
 
 use crate::HomFault;

@@ -4,7 +4,7 @@ ghost use Rattle.std.specs.Prelude.{◌≡◌, ◌<◌, Some, length, map as map
 ghost use Rattle.rw_schema.specs.First.{first_in};
 ghost use Rattle.rw_schema.specs.Presentation.{signature_of, ends_of_arrow};
 ghost use Rattle.rw_spec.specs.Homomorphism.{map_of};
-ghost use Rattle.rw_table.specs.Tabled.{IsOver, instance_of_table};
+ghost use Rattle.rw_spec.specs.Tabled.{IsOver, instance_of_table};
 ghost use Rattle.rw_map.specs.HomFaults.{commutes_at as is_square, square_fault};
 ghost use Rattle.rw_map.specs.Homs.{HasImages};
 

@@ -1,6 +1,6 @@
 //! What no contract says: that calls succeed where memory is there.
 
-ghost use Rattle.rw_table.specs.Tabled.{IsOver};
+ghost use Rattle.rw_spec.specs.Tabled.{IsOver};
 
 use crate::{Hom, compose, image_contains, is_injective};
 use rw_schema::{ObjectId, OutOfMemory, PartMap, Rows, Schema, SchemaParts, Text};

@@ -8,8 +8,6 @@ pub mod Over
 pub mod PartNames
 pub mod PatternInstance
 pub mod Places
-pub mod SameAtoms
 pub mod Shapes
-pub mod Tuples
 pub mod Valuations
 pub mod WithEntries

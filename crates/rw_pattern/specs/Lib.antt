@@ -3,4 +3,3 @@ pub mod MapFaults
 pub mod Matches
 pub mod PatternFaults
 pub mod PatternLists
-pub mod Tuples

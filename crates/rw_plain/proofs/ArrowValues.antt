@@ -10,16 +10,10 @@ use Rattle.rw_schema.specs.Signature.{Signature, source_of}
 use Rattle.rw_spec.specs.Ends.{target_of}
 use Rattle.rw_spec.specs.Instance.{Instance}
 use Rattle.rw_spec.proofs.Look.{found_contained, look_missing}
-use Rattle.rw_spec.proofs.Signatures.{source_is}
-use Rattle.rw_table.specs.Tabled.{Tabled, instance_of_table, value_at}
+use Rattle.rw_spec.proofs.Signatures.{source_is, target_is}
+use Rattle.rw_spec.specs.Tabled.{Tabled, instance_of_table, value_at}
 use Rattle.rw_rule.specs.RuleLists.{RuleLists}
 use Rattle.rw_plain.specs.PlainStep.{name_of_right, part_of_name, value_after}
-
--- the target of an arrow is the target in its ends
-target_is : (C : Signature) (arrow : ℕ) (ends : ArrowEnds) → slice_get C.arrows arrow ≡ Some ends → target_of C arrow ≡ ends.target.0
-target_is C arrow ends there =
-    let target = λ (each : ArrowEnds). each.target.0 in
-    get_or_from_slice_get (map target C.arrows) arrow ends.target.0 0 (slice_get-map target C.arrows arrow ∙ ap (option_map target) there)
 
 -- the value that a table answers, or 0 where it answers none, is that of the arrow
 pub value_or_zero : (table : Tabled) (arrow name : ℕ) → unwrap_or (value_at table arrow name) 0 ≡ (instance_of_table table).value arrow name

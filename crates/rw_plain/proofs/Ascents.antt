@@ -5,8 +5,8 @@ use Rattle.std.proofs.lemmas.Bool.{and_from, cases_Bool, lt-ltb}
 use Rattle.std.proofs.lemmas.List.{get_or_default}
 use Rattle.std.proofs.lemmas.List.Elements.{Contains-append_cases}
 use Rattle.std.proofs.lemmas.List.FromFn.{length-range_with_len, get_or-range_with_len}
-use Rattle.rw_table.specs.TableFaults.{ascends}
-use Rattle.rw_table.proofs.Ascending.{ascends_rest, ascends_apart}
+use Rattle.rw_spec.specs.Ascending.{ascends}
+use Rattle.rw_spec.proofs.Ascending.{ascends_rest, ascends_apart}
 use Rattle.rw_spec.proofs.Sequences.{contains_here, contains_later, contained_in_filter}
 
 -- numbers ascend behind one that is below each of them

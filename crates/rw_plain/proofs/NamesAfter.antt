@@ -10,7 +10,8 @@ use Rattle.rw_schema.specs.Signature.{Signature}
 use Rattle.rw_schema.proofs.Firsts.{first_none, passed_unless}
 use Rattle.rw_schema.proofs.Lists.{list_at_within}
 use Rattle.rw_spec.specs.Instance.{Instance, Has, instance_of}
-use Rattle.rw_table.specs.TableFaults.{ascends, are_names, table_fault}
+use Rattle.rw_table.specs.TableFaults.{are_names, table_fault}
+use Rattle.rw_spec.specs.Ascending.{ascends}
 use Rattle.rw_table.specs.declared.fault.TableFault.{TableFault}
 use Rattle.rw_table.specs.declared.fault.TableFault.TheVariants.{Names}
 use Rattle.rw_table.proofs.Checked.{AreChecked, checked_known, shape_known}

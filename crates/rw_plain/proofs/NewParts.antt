@@ -5,7 +5,7 @@ use Rattle.std.proofs.lemmas.Bool.{not_from_false, not-true}
 use Rattle.std.proofs.lemmas.List.{get_or-append-add}
 use Rattle.std.proofs.lemmas.List.Elements.{Contains-get_or, filter-append}
 use Rattle.rw_spec.specs.Distinct.{AreDistinct}
-use Rattle.rw_table.proofs.Ascending.{ascends_distinct}
+use Rattle.rw_spec.proofs.Ascending.{ascends_distinct}
 use Rattle.rw_pattern.specs.PatternLists.{size_of}
 use Rattle.rw_pattern.proofs.PartNames.{part_below}
 use Rattle.rw_spec.proofs.Sequences.{contained_in_filter}

@@ -8,11 +8,11 @@ use Rattle.rw_schema.specs.Signature.{Signature}
 use Rattle.rw_spec.specs.Instance.{Instance}
 use Rattle.rw_pattern.specs.Matches.{candidates, is_match, matches, names_of_parts}
 use Rattle.rw_pattern.specs.PatternLists.{PatternLists, size_of, place_of, map_of_tuple}
-use Rattle.rw_pattern.specs.Tuples.{tuples}
+use Rattle.rw_spec.specs.Tuples.{tuples}
 use Rattle.rw_pattern.proofs.Naturality.{length_candidates}
 use Rattle.rw_pattern.proofs.Places.{parts_within}
 use Rattle.rw_spec.proofs.Sequences.{contained_in_filter}
-use Rattle.rw_pattern.proofs.Tuples.{IsTuple, is_tuple}
+use Rattle.rw_spec.proofs.Tuples.{IsTuple, is_tuple}
 
 -- they are the images of the parts
 part_names : (pattern : PatternLists) (tuple : List ℕ) (object : ℕ) → object < length pattern.sizes → length tuple ≡ sum pattern.sizes

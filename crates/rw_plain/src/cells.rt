@@ -5,7 +5,7 @@ ghost use Rattle.std.specs.List.{range_with_len};
 ghost use Rattle.std.specs.Option.{option_map};
 ghost use Rattle.rw_schema.specs.First.{map_in};
 ghost use Rattle.rw_schema.specs.Presentation.{signature_of, ends_of_attribute};
-ghost use Rattle.rw_table.specs.Tabled.{IsOver, instance_of_table};
+ghost use Rattle.rw_spec.specs.Tabled.{IsOver, instance_of_table};
 ghost use Rattle.rw_terms.specs.declared.code.OpCode as code;
 ghost use Rattle.rw_plain.specs.Obstructions.{too_large};
 ghost use Rattle.rw_plain.specs.PlainStep.{cell_after as cell_after_step, names_after as names_after_step, sets_cell};

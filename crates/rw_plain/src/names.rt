@@ -2,7 +2,7 @@
 
 ghost use Rattle.std.specs.Prelude.{◌≡◌, ◌<◌, ◌≤◌, IfOk, not, filter, length, sum};
 ghost use Rattle.rw_schema.specs.RowLists.{list_at};
-ghost use Rattle.rw_table.specs.Tabled.{instance_of_table};
+ghost use Rattle.rw_spec.specs.Tabled.{instance_of_table};
 ghost use Rattle.rw_plain.specs.Obstructions.{most_names};
 ghost use Rattle.rw_plain.specs.PlainStep.{is_removed as is_removed_name, names_after as names_after_step, next_after as next_after_step};
 ghost use Rattle.rw_plain.specs.RuleParts.{HasObject};

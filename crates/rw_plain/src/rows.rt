@@ -6,7 +6,7 @@ ghost use Rattle.rw_schema.specs.First.{map_in};
 ghost use Rattle.rw_schema.specs.Presentation.{signature_of, ends_of_arrow};
 ghost use Rattle.rw_schema.specs.Signature.{IsCategory};
 ghost use Rattle.rw_table.specs.TableFaults.{table_fault};
-ghost use Rattle.rw_table.specs.Tabled.{IsOver, instance_of_table};
+ghost use Rattle.rw_spec.specs.Tabled.{IsOver, instance_of_table};
 ghost use Rattle.rw_terms.specs.declared.code.OpCode as code;
 ghost use Rattle.rw_plain.specs.Obstructions.{too_large};
 ghost use Rattle.rw_plain.specs.PlainStep.{names_after as names_after_step, next_after as next_after_step, value_after as value_after_step, rows_after as rows_after_step};

@@ -4,7 +4,7 @@ ghost use Rattle.std.specs.Prelude.{◌≡◌, ◌<◌, ◌==◌, ◌&&◌, ℕ,
 ghost use Rattle.rw_schema.specs.First.{first_in};
 ghost use Rattle.rw_schema.specs.Presentation.{signature_of};
 ghost use Rattle.rw_spec.specs.Instance.{Instance};
-ghost use Rattle.rw_table.specs.Tabled.{instance_of_table};
+ghost use Rattle.rw_spec.specs.Tabled.{instance_of_table};
 ghost use Rattle.rw_terms.specs.declared.code.OpCode as code;
 ghost use Rattle.rw_terms.specs.OpEntries.{entries};
 ghost use Rattle.rw_terms.specs.OpTables.{codes_of};

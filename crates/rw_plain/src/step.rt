@@ -2,7 +2,7 @@
 
 ghost use Rattle.std.specs.Prelude.{◌≡◌, IfOk, true, None, Contains, length};
 ghost use Rattle.rw_schema.specs.Presentation.{signature_of};
-ghost use Rattle.rw_table.specs.Tabled.{IsOver, instance_of_table};
+ghost use Rattle.rw_spec.specs.Tabled.{IsOver, instance_of_table};
 ghost use Rattle.rw_pattern.specs.Matches.{matches};
 ghost use Rattle.rw_rule.specs.RuleFaults.{IsRuleOver};
 ghost use Rattle.rw_terms.specs.OpEntries.{entries};

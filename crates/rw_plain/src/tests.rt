@@ -4,7 +4,7 @@ ghost use Rattle.std.specs.Prelude.{◌≡◌, true, List, [], ◌∷◌, IfOk, 
 ghost use Rattle.rw_schema.specs.Presentation.{signature_of, ends_of_arrow};
 ghost use Rattle.rw_pattern.specs.PatternFaults.{IsPatternOver};
 ghost use Rattle.rw_pattern.specs.PatternLists.{holders_in};
-ghost use Rattle.rw_table.specs.Tabled.{IsOver};
+ghost use Rattle.rw_spec.specs.Tabled.{IsOver};
 ghost use Rattle.rw_rule.specs.PlainRules.{is_plain};
 ghost use Rattle.rw_rule.specs.RuleFaults.{IsRuleOver};
 ghost use Rattle.rw_terms.specs.OpEntries.{entries};

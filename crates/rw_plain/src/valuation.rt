@@ -3,7 +3,7 @@
 ghost use Rattle.std.specs.Prelude.{◌≡◌, ◌<◌, All, IfOk, IfSome, find, length, pos, sum, unwrap_or};
 ghost use Rattle.std.specs.Option.{option_map};
 ghost use Rattle.rw_schema.specs.declared.atom.Atom.TheVariants.{Int};
-ghost use Rattle.rw_table.specs.Tabled.{instance_of_table};
+ghost use Rattle.rw_spec.specs.Tabled.{instance_of_table};
 ghost use Rattle.rw_pattern.specs.Matches.{value_of as value_at, wants};
 ghost use Rattle.rw_plain.specs.RuleParts.{IsOnCell};
 ghost use Rattle.rw_plain.specs.SetValues.{valuation};

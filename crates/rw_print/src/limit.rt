@@ -2,7 +2,7 @@
 
 ghost use Rattle.std.specs.Prelude.{◌≡◌, ◌<◌, ◌≤◌, IfOk, length, map};
 ghost use Rattle.serde_json.specs.View.{view};
-ghost use Rattle.rw_table.specs.Tabled.{IsOver};
+ghost use Rattle.rw_spec.specs.Tabled.{IsOver};
 ghost use Rattle.rw_print.specs.Limits.{atom_data, cell_data, cells_data, limit_data, clash_data, large_data};
 ghost use Rattle.rw_print.specs.Lines.{line, count_data, tuple_data};
 

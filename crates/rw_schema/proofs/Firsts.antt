@@ -1,6 +1,7 @@
 -- The first fault of several, and of a list.
-use Rattle.std.proofs.Common.{◌≡◌, ℕ, zero, suc, ◌+◌, ◌<◌, ◌≤◌, Bool, true, false, Option, Some, None, List, [], ◌∷◌, length, get_or, drop, slice_get, refl, add-one, add-zero, arith, drop-cons, drop_of_length-le}
+use Rattle.std.proofs.Common.{◌≡◌, ℕ, zero, suc, ◌+◌, ◌<◌, ◌≤◌, Bool, true, false, Option, Some, None, List, [], ◌∷◌, length, get_or, drop, slice_get, refl, subst, add-one, add-zero, zero-add, arith, drop-cons, drop_of_length-le}
 use Rattle.std.specs.List.{list_all}
+use Rattle.std.proofs.lemmas.Bool.{and_parts}
 use Rattle.rw_schema.specs.First.{or_else, first_in, fault_unless}
 
 -- where no fault is first, the first is none and the second is none
@@ -62,3 +63,32 @@ all_unless test fault i (x ∷ xs) none =
 pub first_same : {X A : Type 0} (f g : ℕ → X → Option A) (i : ℕ) (xs : List X) → ((k : ℕ) (x : X) → f k x ≡ g k x) → first_in f i xs ≡ first_in g i xs
 first_same f g i [] same = refl
 first_same f g i (x ∷ xs) same = rw (same i x, first_same f g (i + 1) xs same) refl
+
+-- there is no first fault where no item has one, from place i on
+pub none_from : {X A : Type 0} (f : ℕ → X → Option A) (i : ℕ) (xs : List X)
+    → ((k : ℕ) (x : X) → slice_get xs k ≡ Some x → f (i + k) x ≡ None) → first_in f i xs ≡ None
+none_from f i [] each = refl
+none_from f i (x ∷ xs) each =
+    let here : f i x ≡ None = rw add-zero at (each zero x refl) in
+    let later : first_in f (i + 1) xs ≡ None =
+    none_from f (i + 1) xs (λ k y there.
+    let same : i + suc k ≡ (i + 1) + k = omega arith in
+    rw (← same) (each (suc k) y there)) in
+    rw (here, later) refl
+
+-- there is no first fault where no item has one
+pub none_from_each : {X A : Type 0} (f : ℕ → X → Option A) (xs : List X)
+    → ((k : ℕ) (x : X) → slice_get xs k ≡ Some x → f k x ≡ None) → first_in f 0 xs ≡ None
+none_from_each f xs each = none_from f 0 xs (λ k x there. rw (zero-add k) (each k x there))
+
+-- where no item has a fault, the one at a place has none
+pub none_at : {X A : Type 0} (f : ℕ → X → Option A) (xs : List X) (k : ℕ) (x : X) → first_in f 0 xs ≡ None → slice_get xs k ≡ Some x → f k x ≡ None
+none_at f xs k x none there = subst (λ (place : ℕ). f place x ≡ None) (zero-add k) (first_none f 0 xs none k x there)
+
+-- where all items pass a test, none fails it
+pub none_unless : {X A : Type 0} (test : X → Bool) (fault : ℕ → A) (i : ℕ) (xs : List X) → list_all test xs ≡ true
+    → first_in (λ place x. fault_unless (test x) (fault place)) i xs ≡ None
+none_unless test fault i [] all = refl
+none_unless test fault i (x ∷ xs) all =
+    let parts = and_parts (test x) (list_all test xs) all in
+    rw parts.0 (none_unless test fault (i + 1) xs parts.1)

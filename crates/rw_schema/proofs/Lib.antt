@@ -3,4 +3,5 @@ pub mod Firsts
 pub mod Lists
 pub mod Orders
 pub mod Paths
+pub mod SameAtoms
 pub mod Schemas

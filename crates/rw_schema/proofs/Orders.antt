@@ -1,14 +1,14 @@
 -- Orders of objects in which arrows point backwards: how they grow, that they are all there is where no arrows lead round a cycle, and the cycle where they stop.
-use Rattle.std.proofs.Common.{◌≡◌, ◌==◌, ℕ, zero, suc, ◌+◌, ◌<◌, ◌≤◌, Bool, true, false, ◌||◌, not, nat_lt, Some, List, [], ◌∷◌, ◌++◌, map, take, length, get_or, slice_get, refl, sym, ap, ◌∙◌, subst, arith, eqb, ◌⊎◌, inl, inr, zero-add, length-append}
+use Rattle.std.proofs.Common.{◌≡◌, ◌==◌, ℕ, zero, suc, ◌+◌, ◌<◌, ◌≤◌, Bool, true, false, ◌||◌, not, nat_lt, Some, List, [], ◌∷◌, ◌++◌, map, take, length, get_or, slice_get, option_map, refl, sym, ap, ◌∙◌, subst, arith, eqb, ◌⊎◌, inl, inr, zero-add, length-append}
 use Rattle.std.specs.Cmp.{nat_eq_equiv}
 use Rattle.std.specs.List.{list_any, list_all, range_with_len, position_or_len, IsDistinct, AllByRecursion}
-use Rattle.std.proofs.lemmas.Bool.{eqb-true, eq-eqb, ne_eqb, cases_lt, cases_Bool, or_cases, or_parts, and_parts, and_cases, not-true, not-false, true_from_ne_false, both_ways, ltb-true}
+use Rattle.std.proofs.lemmas.Bool.{eqb-true, eq-eqb, ne_eqb, cases_lt, cases_Bool, or_cases, or_parts, or_left, or_right, cases_order, and_parts, and_cases, not-true, not-false, true_from_ne_false, both_ways, ltb-true}
 use Rattle.std.proofs.lemmas.List.{length-map, map-append, take-append-le}
 use Rattle.std.proofs.Math.Seq.{take-append_seam}
 use Rattle.std.proofs.lemmas.List.Elements.{Contains-get_or}
 use Rattle.std.proofs.lemmas.List.Folds.{list_any-append}
 use Rattle.std.proofs.lemmas.List.FromFn.{length-range_with_len, get_or-range_with_len}
-use Rattle.std.proofs.lemmas.Map.Keys.{IsDistinct-push, IsDistinct-from_apart, IsDistinct-cons}
+use Rattle.std.proofs.lemmas.Map.Keys.{IsDistinct-push, IsDistinct-from_apart, IsDistinct-cons, apart_from_distinct}
 use Rattle.std.proofs.lemmas.Map.Made.{length-le_from_is_member}
 use Rattle.std.proofs.lemmas.Map.Steps.{length-le_from_distinct_below}
 use Rattle.std.proofs.lemmas.Option.{slice_get_within, get_or_from_slice_get, slice_get-map}
@@ -230,6 +230,42 @@ path_falls C objects arrows placed are ends begun all from (step ∷ path) to le
     path_falls C objects arrows placed are ends begun all leads.0.target.0 path to leads.3 in
     omega (arith, first, start, middle, rest)
 
+-- an object that stands in the list is placed
+placed_at : (placed : List ObjectId) (k : ℕ) (object : ObjectId) → slice_get placed k ≡ Some object → is_placed placed object.0 ≡ true
+placed_at [] k object there = cc
+placed_at (other ∷ placed) zero object there =
+    let same : other ≡ object = cc in
+    or_left (object.0 == other.0) (is_placed placed object.0) (eq-eqb object.0 other.0 (ap number_of (sym same)))
+placed_at (other ∷ placed) (suc k) object there = or_right (object.0 == other.0) (is_placed placed object.0) (placed_at placed k object there)
+
+-- the number of an object stands among the numbers where the object stands
+number_at_place : (placed : List ObjectId) (k : ℕ) (object : ObjectId) → slice_get placed k ≡ Some object → get_or (map number_of placed) k 0 ≡ object.0
+number_at_place placed k object there =
+    get_or_from_slice_get (map number_of placed) k object.0 0 (slice_get-map number_of placed k ∙ ap (option_map number_of) there)
+
+-- of two places with one object the first is not before the second
+not_twice : (placed : List ObjectId) (i j : ℕ) (object : ObjectId) → IsDistinct eqb (map number_of placed)
+    → slice_get placed i ≡ Some object → slice_get placed j ≡ Some object → i < j → ⊥
+not_twice placed i j object distinct first second before =
+    let within : j < length (map number_of placed) = rw (length-map placed number_of) (slice_get_within placed j object second) in
+    let apart : eqb (get_or (map number_of placed) i 0) (get_or (map number_of placed) j 0) ≡ false =
+    apart_from_distinct eqb (map number_of placed) i j 0 distinct before within in
+    both_ways (eqb (get_or (map number_of placed) i 0) (get_or (map number_of placed) j 0)) apart
+    (eq-eqb (get_or (map number_of placed) i 0) (get_or (map number_of placed) j 0)
+    (number_at_place placed i object first ∙ sym (number_at_place placed j object second)))
+
+-- each object stands once
+placed_once : (placed : List ObjectId) → IsDistinct eqb (map number_of placed) → (i j : ℕ) (object : ObjectId)
+    → slice_get placed i ≡ Some object → slice_get placed j ≡ Some object → i ≡ j
+placed_once placed distinct i j object first second =
+    elim (cases_order i j) [
+      | inl same ↦ same
+      | inr other ↦ elim other [
+        | inl before ↦ absurd (not_twice placed i j object distinct first second before)
+        | inr after ↦ absurd (not_twice placed j i object distinct second first after)
+      ]
+    ]
+
 -- where all objects are placed, they are in order, and there is no cycle
 pub ordered : (C : Signature) (objects : ℕ) (arrows : List ArrowDef) (placed : List ObjectId) → C.objects ≡ objects → C.arrows ≡ map ends_of_arrow arrows
     → list_all (has_ends objects) arrows ≡ true → IsBegun objects arrows placed → length placed ≡ objects → IsTopological C placed × ¬ HasCycle C
@@ -242,6 +278,8 @@ ordered C objects arrows placed many are ends begun long =
             rw (← get_or_from_slice_get placed (place_in placed q) object object there)
             (Contains-get_or placed (place_in placed q) object (slice_get_within placed (place_in placed q) object there));
         long = long ∙ sym many;
+        known = λ k object there. rw many (begun.known object.0 (placed_at placed k object there));
+        once = placed_once placed begun.distinct;
         targets_first = λ a pair is.
             let found = slice_get_mapped ends_of_arrow arrows a pair (rw (← are) is) in
             let arrow : ArrowDef = found.0 in

@@ -1,5 +1,6 @@
 pub mod Atoms
 pub mod First
+pub mod Limits
 pub mod Presentation
 pub mod RowLists
 pub mod SchemaFaults

@@ -11,21 +11,22 @@ use Rattle.rw_schema.specs.declared.section.Section.TheVariants.{Objects, Arrows
 use Rattle.rw_schema.specs.declared.fault.SchemaFault.{SchemaFault}
 use Rattle.rw_schema.specs.declared.fault.SchemaFault.TheVariants.{Limit, Twice, Unknown, Ends, OutOfMemory}
 use Rattle.rw_schema.specs.First.{or_else, first_in, fault_unless}
+use Rattle.rw_schema.specs.Limits.{most_objects, most_arrows, most_attributes, most_equations, longest_name, longest_path}
 use Rattle.rw_schema.specs.Presentation.{Presentation}
 
 -- a name has 1 to 255 bytes
 abbrev pub is_name : List ℕ → Bool
-is_name name = nat_le 1 (length name) && nat_le (length name) 255
+is_name name = nat_le 1 (length name) && nat_le (length name) longest_name
 
 -- each side of the equation has at most 32 arrows
 abbrev pub has_short_sides : Equation → Bool
-has_short_sides equation = nat_le (length equation.left) 32 && nat_le (length equation.right) 32
+has_short_sides equation = nat_le (length equation.left) longest_path && nat_le (length equation.right) longest_path
 
 -- at most 64 objects, 256 arrows, 256 attributes and 256 equations, each name and each path of an equation within its limits
 abbrev pub is_within_limits : Presentation → Bool
 is_within_limits schema =
-    nat_le (length schema.objects) 64 && nat_le (length schema.arrows) 256
-    && nat_le (length schema.attributes) 256 && nat_le (length schema.equations) 256
+    nat_le (length schema.objects) most_objects && nat_le (length schema.arrows) most_arrows
+    && nat_le (length schema.attributes) most_attributes && nat_le (length schema.equations) most_equations
     && list_all is_name schema.objects && list_all (λ (arrow : ArrowDef). is_name arrow.name) schema.arrows
     && list_all (λ (attribute : AttrDef). is_name attribute.name) schema.attributes
     && list_all has_short_sides schema.equations

@@ -1,7 +1,7 @@
 -- The printed names of a document's sections.
 use Rattle.std.specs.Prelude.{ℕ, List, codes}
 use Rattle.rw_schema.specs.declared.section.Section.{Section}
-use Rattle.rw_schema.specs.declared.section.Section.TheVariants.{Whole, Schema, Objects, Arrows, Attributes, Equations, Instance, Parts, Rows, Cells, Equation, Rules, Watches, Boxes, Span, Cospan}
+use Rattle.rw_schema.specs.declared.section.Section.TheVariants.{Whole, Schema, Objects, Arrows, Attributes, Equations, Instance, Parts, Rows, Cells, Equation, Rules, Watches, Nested, Boxes, Span, Cospan, Observers}
 
 -- the name that a fault line prints for a section
 abbrev pub name_of_section : Section → List ℕ
@@ -18,6 +18,8 @@ name_of_section Cells = codes "cells"
 name_of_section Equation = codes "equation"
 name_of_section Rules = codes "rules"
 name_of_section Watches = codes "watches"
+name_of_section Nested = codes "nested"
 name_of_section Boxes = codes "boxes"
 name_of_section Span = codes "span"
 name_of_section Cospan = codes "cospan"
+name_of_section Observers = codes "observers"

@@ -26,6 +26,8 @@ pub record IsBefore (order : List ObjectId) (first second : ℕ) : Type 0 where
 pub record IsTopological (C : Signature) (order : List ObjectId) : Type 0 where
   pub all : (object : ℕ) → object < C.objects → Contains order (record { 0 = object })
   pub long : length order ≡ C.objects
+  pub known : (k : ℕ) (object : ObjectId) → slice_get order k ≡ Some object → object.0 < C.objects
+  pub once : (i j : ℕ) (object : ObjectId) → slice_get order i ≡ Some object → slice_get order j ≡ Some object → i ≡ j
   pub targets_first : (a : ℕ) (ends : ArrowEnds) → slice_get C.arrows a ≡ Some ends → IsBefore order ends.target.0 ends.source.0
 
 -- such an order, which is there exactly where no arrows lead round a cycle

@@ -75,7 +75,7 @@ fn is_one_end(left: Option<u16>, right: Option<u16>) -> bool
 }
 
 /// Whether both sides lead from the equation's object to one object.
-fn do_sides_meet(arrows: &[ArrowDef], equation: &Equation) -> bool
+pub fn do_sides_meet(arrows: &[ArrowDef], equation: &Equation) -> bool
     requires left { has_arrows (length arrows.now) equation.now.left ≡ true }
     requires right { has_arrows (length arrows.now) equation.now.right ≡ true }
     ensures { result ≡ sides_meet arrows.now equation.now }

@@ -14,7 +14,7 @@ mod ids;
 mod limits;
 mod memory;
 mod named;
-mod names;
+mod name_index;
 mod part_map;
 mod parts;
 mod path;
@@ -28,6 +28,7 @@ mod text;
 mod topological;
 
 pub use atom::{Atom, Kind};
+pub use equations::do_sides_meet;
 pub use fault::SchemaFault;
 pub use ids::{ArrowId, AttrId, ObjectId};
 pub use limits::{
@@ -35,7 +36,7 @@ pub use limits::{
 };
 pub use memory::OutOfMemory;
 pub use named::Named;
-pub use names::Names;
+pub use name_index::NameIndex;
 pub use part_map::PartMap;
 pub use parts::{ArrowDef, AttrDef, Equation, SchemaParts};
 pub use path::Path;

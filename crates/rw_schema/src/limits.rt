@@ -2,6 +2,7 @@
 
 ghost use Rattle.std.specs.Prelude.{◌≡◌, ◌&&◌, length, nat_le};
 ghost use Rattle.std.specs.List.{list_all};
+ghost use Rattle.rw_schema.specs.Limits.{longest_name};
 ghost use Rattle.rw_schema.specs.Presentation.{Presentation};
 ghost use Rattle.rw_schema.specs.SchemaFaults.{is_name, has_short_sides, is_within_limits};
 
@@ -27,7 +28,7 @@ pub const LONGEST_PATH: usize = 32;
 
 /// Whether a name's length is within its limits.
 fn is_name_length(length: usize) -> bool
-    ensures { result ≡ (nat_le 1 length && nat_le length 255) }
+    ensures { result ≡ (nat_le 1 length && nat_le length longest_name) }
 {
     1 <= length && length <= LONGEST_NAME
 }

@@ -14,7 +14,7 @@ use crate::equations::first_ill_formed;
 use crate::limits::are_within_limits;
 use crate::topological::order_of;
 use crate::{
-    ArrowDef, ArrowId, AttrDef, AttrId, Equation, Named, Names, ObjectId, OutOfMemory, SchemaFault,
+    ArrowDef, ArrowId, AttrDef, AttrId, Equation, Named, NameIndex, ObjectId, OutOfMemory, SchemaFault,
     SchemaParts, Section, Text,
 };
 use std::alloc::Global;
@@ -30,9 +30,9 @@ pub struct Schema {
     arrows: Vec<ArrowDef>,
     attributes: Vec<AttrDef>,
     equations: Vec<Equation>,
-    object_names: Names,
-    arrow_names: Names,
-    attribute_names: Names,
+    object_names: NameIndex,
+    arrow_names: NameIndex,
+    attribute_names: NameIndex,
 }
 
 impl Model for Schema {
@@ -228,11 +228,11 @@ impl Schema {
 }
 
 /// The index of the items' names, or the first item whose name an earlier one has.
-fn index_names<T: Named>(alloc: Global, section: Section, items: &[T]) -> Result<Names, SchemaFault>
+fn index_names<T: Named>(alloc: Global, section: Section, items: &[T]) -> Result<NameIndex, SchemaFault>
     requires { length items.now < 257 }
     ensures { IndexesNames T.name_of section items.now result }
 {
-    let mut names = Names::new(alloc);
+    let mut names = NameIndex::new(alloc);
     for (place, item) in items.iter().enumerate() {
         let name = item.name().as_str();
         if names.has(name) {

@@ -19,9 +19,11 @@ pub enum Section {
     Equation,
     Rules,
     Watches,
+    Nested,
     Boxes,
     Span,
     Cospan,
+    Observers,
 }
 
 impl Section {
@@ -43,9 +45,11 @@ impl Section {
             Section::Equation => "equation",
             Section::Rules => "rules",
             Section::Watches => "watches",
+            Section::Nested => "nested",
             Section::Boxes => "boxes",
             Section::Span => "span",
             Section::Cospan => "cospan",
+            Section::Observers => "observers",
         }
     }
 }

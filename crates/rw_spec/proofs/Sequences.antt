@@ -204,3 +204,9 @@ all_in_from_each f i (x ∷ xs) each =
 pub list_all_from_each : {X : Type 0} (p : X → Bool) (xs : List X) → ((k : ℕ) (x : X) → slice_get xs k ≡ Some x → p x ≡ true) → list_all p xs ≡ true
 list_all_from_each p [] each = refl
 list_all_from_each p (x ∷ xs) each = rw (each zero x refl) (list_all_from_each p xs (λ k y there. each (suc k) y there))
+
+-- two tests that agree on the items of a list
+pub filter_same : {X : Type 0} (p q : X → Bool) (xs : List X) → ((x : X) → Contains xs x → p x ≡ q x) → filter p xs ≡ filter q xs
+filter_same p q [] same = refl
+filter_same p q (x ∷ xs) same =
+    rw (same x (contains_here x xs), filter_same p q xs (λ y there. same y (contains_later x xs y there))) refl

@@ -1,7 +1,14 @@
+pub mod Ascending
 pub mod Cocone
 pub mod Distinct
 pub mod Ends
 pub mod Homomorphism
 pub mod Instance
 pub mod Natural
+pub mod Pairing
 pub mod Pullback
+pub mod Redex
+pub mod Same
+pub mod Tabled
+pub mod Tuples
+pub mod Values

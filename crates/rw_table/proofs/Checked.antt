@@ -11,13 +11,14 @@ use Rattle.rw_schema.specs.declared.signature.AttrEnds.{AttrEnds}
 use Rattle.rw_schema.specs.First.{or_else, first_in, fault_unless, all_in}
 use Rattle.rw_schema.specs.RowLists.{RowLists, list_at}
 use Rattle.rw_schema.specs.Signature.{Signature}
-use Rattle.rw_schema.proofs.Firsts.{or_else_none, first_none, passed_unless}
+use Rattle.rw_schema.proofs.Firsts.{or_else_none, passed_unless, none_at}
 use Rattle.rw_spec.specs.Distinct.{AreDistinct}
 use Rattle.rw_spec.specs.Instance.{Has, follow, agrees_at, instance_of}
 use Rattle.rw_spec.proofs.Look.{contains_found}
-use Rattle.rw_table.specs.TableFaults.{has_length, has_cells, has_shape, ascends, are_names, names_fault, row_fault, range_fault, is_cell_of, cell_fault, kind_fault, failure_of, equation_fault, table_fault}
+use Rattle.rw_table.specs.TableFaults.{has_length, has_cells, has_shape, are_names, names_fault, row_fault, range_fault, is_cell_of, cell_fault, kind_fault, failure_of, equation_fault, table_fault}
+use Rattle.rw_spec.specs.Ascending.{ascends}
 use Rattle.rw_table.specs.declared.fault.TableFault.TheVariants.{Shape, Names, Range, Kind, Equation}
-use Rattle.rw_table.proofs.Ascending.{ascends_distinct}
+use Rattle.rw_spec.proofs.Ascending.{ascends_distinct}
 
 -- what a test with places says of the item at a place
 all_in_at : {X : Type 0} (test : ℕ → X → Bool) (i : ℕ) (xs : List X) → all_in test i xs ≡ true
@@ -29,10 +30,6 @@ all_in_at test i (y ∷ xs) all zero x there =
 all_in_at test i (y ∷ xs) all (suc k) x there =
     let same : (i + 1) + k ≡ i + suc k = omega arith in
     rw (← same) (all_in_at test (i + 1) xs (and_parts (test i y) (all_in test (i + 1) xs) all).1 k x there)
-
--- where no item has a fault, the one at a place has none
-none_at : {X A : Type 0} (f : ℕ → X → Option A) (xs : List X) (k : ℕ) (x : X) → first_in f 0 xs ≡ None → slice_get xs k ≡ Some x → f k x ≡ None
-none_at f xs k x none there = subst (λ place. f place x ≡ None) (zero-add k) (first_none f 0 xs none k x there)
 
 -- lists of the right shape
 pub record AreShaped (C : Signature) (rows : RowLists) : Type 0 where

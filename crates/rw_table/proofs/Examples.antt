@@ -7,7 +7,7 @@ use Rattle.rw_schema.specs.declared.atom.Kind.TheVariants as kinds
 use Rattle.rw_schema.specs.declared.signature.ArrowEnds.{ArrowEnds}
 use Rattle.rw_schema.specs.RowLists.{RowLists}
 use Rattle.rw_schema.specs.Signature.{Signature}
-use Rattle.rw_table.specs.Tabled.{Tabled, value_at, cell_at}
+use Rattle.rw_spec.specs.Tabled.{Tabled, value_at, cell_at}
 use Rattle.rw_table.specs.TableFaults.{table_fault}
 use Rattle.rw_table.specs.declared.fault.TableFault.TheVariants.{Shape, Names, Range, Kind, Equation}
 

@@ -1,7 +1,7 @@
 pub mod Along
-pub mod Ascending
 pub mod Checked
 mod Examples
 pub mod Listed
+pub mod Numbered
 pub mod Places
 pub mod TableInstance

@@ -15,53 +15,37 @@ use Rattle.rw_schema.specs.Atoms.{kind_of, is_same_kind}
 use Rattle.rw_schema.specs.First.{first_in, fault_unless, all_in}
 use Rattle.rw_schema.specs.RowLists.{RowLists, list_at}
 use Rattle.rw_schema.specs.Signature.{Signature, IsPath, IsCategory}
-use Rattle.rw_schema.proofs.Firsts.{unless_true}
+use Rattle.rw_schema.proofs.Firsts.{unless_true, none_from_each}
 use Rattle.rw_schema.proofs.Lists.{slice_get_mapped, length_map_in, get_or_map_in}
 use Rattle.rw_spec.specs.Distinct.{AreDistinct}
 use Rattle.rw_spec.specs.Instance.{Instance, Has, IsInstance, agrees_at, follow, instance_of, lists_of, look}
 use Rattle.rw_spec.proofs.Look.{found_contained, look_at}
 use Rattle.rw_spec.proofs.Signatures.{source_is}
-use Rattle.rw_table.specs.TableFaults.{has_length, has_cells, has_shape, ascends, are_names, names_fault, row_fault, range_fault, is_cell_of, cell_fault, kind_fault, failure_of, equation_fault, table_fault}
+use Rattle.rw_table.specs.TableFaults.{has_length, has_cells, has_shape, are_names, names_fault, row_fault, range_fault, is_cell_of, cell_fault, kind_fault, failure_of, equation_fault, table_fault}
+use Rattle.rw_spec.specs.Ascending.{ascends}
 use Rattle.rw_table.specs.declared.fault.TableFault.{TableFault}
 use Rattle.rw_table.specs.declared.fault.TableFault.TheVariants.{Names, Range, Kind, Equation}
-use Rattle.rw_table.proofs.Ascending.{ascends_distinct}
+use Rattle.rw_spec.proofs.Ascending.{ascends_distinct}
 use Rattle.rw_spec.proofs.Sequences.{contains_at, all_in_from_each}
-
--- there is no first fault where no item has one
-none_from : {X A : Type 0} (f : ℕ → X → Option A) (i : ℕ) (xs : List X)
-    → ((k : ℕ) (x : X) → slice_get xs k ≡ Some x → f (i + k) x ≡ None) → first_in f i xs ≡ None
-none_from f i [] each = refl
-none_from f i (x ∷ xs) each =
-    let here : f i x ≡ None = rw add-zero at (each zero x refl) in
-    let later : first_in f (i + 1) xs ≡ None =
-    none_from f (i + 1) xs (λ k y there.
-    let same : i + suc k ≡ (i + 1) + k = omega arith in
-    rw (← same) (each (suc k) y there)) in
-    rw (here, later) refl
-
--- there is no first fault in a list from place 0 where no item has one
-none_from_0 : {X A : Type 0} (f : ℕ → X → Option A) (xs : List X)
-    → ((k : ℕ) (x : X) → slice_get xs k ≡ Some x → f k x ≡ None) → first_in f 0 xs ≡ None
-none_from_0 f xs each = none_from f 0 xs (λ k x there. rw (zero-add k) (each k x there))
 
 -- the lists of an instance, with next names that a function gives
 abbrev pub listed : Signature → Instance → (ℕ → ℕ) → RowLists
 listed C Y next = lists_of C Y (map next (range_with_len 0 C.objects))
 
 -- the names of an object in the lists are its names
-names_listed : (C : Signature) (Y : Instance) (next : ℕ → ℕ) (object : ℕ) → object < C.objects
+pub names_listed : (C : Signature) (Y : Instance) (next : ℕ → ℕ) (object : ℕ) → object < C.objects
     → list_at (listed C Y next).names object ≡ Y.names object
 names_listed C Y next object known = get_or-map-range_with_len Y.names 0 C.objects object object [] known (zero-add object)
 
 -- the row of an arrow in the lists has its value at each name of its source
-row_listed : (C : Signature) (Y : Instance) (next : ℕ → ℕ) (a : ℕ) (ends : ArrowEnds) → slice_get C.arrows a ≡ Some ends
+pub row_listed : (C : Signature) (Y : Instance) (next : ℕ → ℕ) (a : ℕ) (ends : ArrowEnds) → slice_get C.arrows a ≡ Some ends
     → list_at (listed C Y next).arrows a ≡ map (Y.value a) (Y.names ends.source.0)
 row_listed C Y next a ends there =
     get_or_map_in (λ a (ends : ArrowEnds). map (Y.value a) (Y.names ends.source.0)) 0 C.arrows a ends [] there
     ∙ rw (zero-add a) refl
 
 -- the cells of an attribute in the lists are its cells at the names of its object
-cells_listed : (C : Signature) (Y : Instance) (next : ℕ → ℕ) (c : ℕ) (ends : AttrEnds) → slice_get C.attributes c ≡ Some ends
+pub cells_listed : (C : Signature) (Y : Instance) (next : ℕ → ℕ) (c : ℕ) (ends : AttrEnds) → slice_get C.attributes c ≡ Some ends
     → list_at (listed C Y next).cells c ≡ map (Y.cell c) (Y.names ends.object.0)
 cells_listed C Y next c ends there =
     get_or_map_in (λ c (ends : AttrEnds). map (Y.cell c) (Y.names ends.object.0)) 0 C.attributes c ends [] there
@@ -107,7 +91,7 @@ names_unfaulted : (C : Signature) (Y : Instance) (next : ℕ → ℕ)
 names_unfaulted C Y next each =
     let rows = listed C Y next in
     let fault : ℕ → List ℕ → Option TableFault = λ object names. fault_unless (are_names (slice_index rows.next object) names) (Names (record { 0 = object })) in
-    none_from_0 fault rows.names (λ object names there.
+    none_from_each fault rows.names (λ object names there.
     let known : object < C.objects = rw (length-map-range_with_len Y.names 0 C.objects) at (slice_get_within rows.names object names there) in
     let names_are : Y.names object ≡ names = sym (names_listed C Y next object known) ∙ get_or_from_slice_get rows.names object names [] there in
     let next_is : slice_index rows.next object ≡ next object = get_or-map-range_with_len next 0 C.objects object object 0 known (zero-add object) in
@@ -120,10 +104,10 @@ range_unfaulted : (C : Signature) (Y : Instance) (next : ℕ → ℕ) → IsCate
     → range_fault C (listed C Y next) ≡ None
 range_unfaulted C Y next category values =
     let rows = listed C Y next in
-    none_from_0 (row_fault rows) C.arrows (λ a ends there.
+    none_from_each (row_fault rows) C.arrows (λ a ends there.
     let names = list_at rows.names ends.target.0 in
     let fault : ℕ → ℕ → Option TableFault = λ position image. fault_unless (list_any (λ name. name == image) names) (Range (record { 0 = a }) position) in
-    none_from_0 fault (list_at rows.arrows a) (λ position image image_there.
+    none_from_each fault (list_at rows.arrows a) (λ position image image_there.
     let from : (x : ℕ) × (slice_get (Y.names ends.source.0) position ≡ Some x) × (Y.value a x ≡ image) =
     slice_get_mapped (Y.value a) (Y.names ends.source.0) position image (rw (row_listed C Y next a ends there) at image_there) in
     let value : Has Y ends.target.0 (Y.value a from.0) = values a ends from.0 there (contains_at (Y.names ends.source.0) position from.0 from.1) in
@@ -145,9 +129,9 @@ cell_of_kind kind (Some atom) each = rw (each atom refl) (same_as_itself kind)
 kinds_unfaulted : (C : Signature) (Y : Instance) (next : ℕ → ℕ) → IsInstance C Y → kind_fault C (listed C Y next) ≡ None
 kinds_unfaulted C Y next is =
     let rows = listed C Y next in
-    none_from_0 (cell_fault rows) C.attributes (λ c ends there.
+    none_from_each (cell_fault rows) C.attributes (λ c ends there.
     let fault : ℕ → Option Atom → Option TableFault = λ position cell. fault_unless (is_cell_of ends.kind cell) (Kind (record { 0 = c }) position) in
-    none_from_0 fault (list_at rows.cells c) (λ position cell cell_there.
+    none_from_each fault (list_at rows.cells c) (λ position cell cell_there.
     let from : (x : ℕ) × (slice_get (Y.names ends.object.0) position ≡ Some x) × (Y.cell c x ≡ cell) =
     slice_get_mapped (Y.cell c) (Y.names ends.object.0) position cell (rw (cells_listed C Y next c ends there) at cell_there) in
     let has : Has Y ends.object.0 from.0 = contains_at (Y.names ends.object.0) position from.0 from.1 in
@@ -155,7 +139,7 @@ kinds_unfaulted C Y next is =
     (cell_of_kind ends.kind cell (λ atom holds. is.atoms c ends from.0 atom there has (from.2 ∙ holds)))))
 
 -- what stands beside a name in a mapped list is the value at the name
-look_mapped : {A : Type 0} (none : A) (f : ℕ → A) (names : List ℕ) (x : ℕ) → AreDistinct names → Contains names x → look none names (map f names) x ≡ f x
+pub look_mapped : {A : Type 0} (none : A) (f : ℕ → A) (names : List ℕ) (x : ℕ) → AreDistinct names → Contains names x → look none names (map f names) x ≡ f x
 look_mapped none f names x distinct (k, within, there) =
     let at : slice_index names k ≡ x = get_or_default names k 0 x within ∙ there in
     ap (look none names (map f names)) (sym at) ∙ look_at none names (map f names) k distinct within ∙ get_or-map f names k 0 none within ∙ ap f at
@@ -187,11 +171,11 @@ equations_unfaulted : (C : Signature) (Y : Instance) (next : ℕ → ℕ) → Is
     → equation_fault C (listed C Y next) ≡ None
 equations_unfaulted C Y next category distinct is =
     let X : Instance = instance_of C (listed C Y next) in
-    none_from_0 (failure_of X) C.equations (λ e equation there.
+    none_from_each (failure_of X) C.equations (λ e equation there.
     let object : ℕ = equation.object.0 in
     let paths = category.paths e equation there in
     let fault : ℕ → ℕ → Option TableFault = λ position name. fault_unless (agrees_at X equation name) (Equation e name) in
-    none_from_0 fault (X.names object) (λ position name name_there.
+    none_from_each fault (X.names object) (λ position name name_there.
     let listed_there : slice_get (Y.names object) position ≡ Some name = rw (names_listed C Y next object (category.starts e equation there)) at name_there in
     let has : Has Y object name = contains_at (Y.names object) position name listed_there in
     let same : follow X equation.left name ≡ follow X equation.right name =

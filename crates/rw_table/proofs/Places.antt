@@ -14,8 +14,8 @@ use Rattle.std.proofs.lemmas.List.Quantifiers.{position-Some}
 use Rattle.std.proofs.lemmas.List.Folds.{list_any_at}
 use Rattle.rw_spec.specs.Instance.{look}
 use Rattle.rw_spec.proofs.Look.{look_first, look_missing, found_contained}
-use Rattle.rw_table.specs.TableFaults.{ascends}
-use Rattle.rw_table.proofs.Ascending.{ascends_apart, ascends_far}
+use Rattle.rw_spec.specs.Ascending.{ascends}
+use Rattle.rw_spec.proofs.Ascending.{ascends_apart, ascends_far}
 
 -- the place of an element that is the first to pass a test
 place_is : {X : Type 0} (test : X → Bool) (xs : List X) (k : ℕ) (d : X)

@@ -13,7 +13,7 @@ use Rattle.rw_schema.specs.Signature.{Signature, source_of}
 use Rattle.rw_spec.specs.Instance.{Has, IsInstance, instance_of, look}
 use Rattle.rw_spec.proofs.Look.{contains_found, look_contains}
 use Rattle.rw_spec.proofs.Signatures.{source_is, holder_is}
-use Rattle.rw_table.specs.Tabled.{Tabled, instance_of_table, value_at}
+use Rattle.rw_spec.specs.Tabled.{Tabled, instance_of_table, value_at}
 use Rattle.rw_table.specs.TableFaults.{table_fault}
 use Rattle.rw_table.proofs.Checked.{checked_known, row_whole, images_named, cells_whole, cells_kept, sides_agree}
 

@@ -1,3 +1,2 @@
 pub mod Along
-pub mod Tabled
 pub mod TableFaults

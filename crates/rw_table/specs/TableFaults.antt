@@ -10,8 +10,9 @@ use Rattle.rw_schema.specs.Atoms.{is_of_kind}
 use Rattle.rw_schema.specs.First.{or_else, first_in, fault_unless, all_in}
 use Rattle.rw_schema.specs.RowLists.{RowLists, list_at}
 use Rattle.rw_schema.specs.Signature.{Signature}
+use Rattle.rw_spec.specs.Ascending.{ascends}
 use Rattle.rw_spec.specs.Instance.{Instance, agrees_at, instance_of}
-use Rattle.rw_table.specs.Tabled.{Tabled}
+use Rattle.rw_spec.specs.Tabled.{Tabled}
 use Rattle.rw_table.specs.declared.fault.TableFault.{TableFault}
 use Rattle.rw_table.specs.declared.fault.TableFault.TheVariants.{Shape, Names, Range, Kind, Equation, OutOfMemory}
 
@@ -30,12 +31,6 @@ has_shape C rows =
     length rows.names == C.objects && length rows.next == C.objects
     && length rows.arrows == length C.arrows && length rows.cells == length C.attributes
     && all_in (has_length rows) 0 C.arrows && all_in (has_cells rows) 0 C.attributes
-
--- each number is less than the one after it
-abbrev pub ascends : List ℕ → Bool
-ascends [] = true
-ascends (x ∷ []) = true
-ascends (x ∷ y ∷ rest) = nat_lt x y && ascends (y ∷ rest)
 
 -- the names ascend strictly, and are below the next name
 abbrev pub are_names : ℕ → List ℕ → Bool

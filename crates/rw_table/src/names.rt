@@ -2,7 +2,8 @@
 
 ghost use Rattle.std.specs.Prelude.{◌≡◌, ◌≤◌, ◌^◌, true, length, nat_lt};
 ghost use Rattle.std.specs.List.{list_all};
-ghost use Rattle.rw_table.specs.TableFaults.{ascends, are_names, names_fault};
+ghost use Rattle.rw_table.specs.TableFaults.{are_names, names_fault};
+ghost use Rattle.rw_spec.specs.Ascending.{ascends};
 
 use crate::TableFault;
 use rw_schema::{ObjectId, Rows};

@@ -5,7 +5,8 @@ ghost use Rattle.std.specs.List.{list_any};
 ghost use Rattle.rw_schema.specs.First.{first_in, fault_unless};
 ghost use Rattle.rw_schema.specs.Presentation.{signature_of, ends_of_arrow};
 ghost use Rattle.rw_schema.specs.RowLists.{list_at};
-ghost use Rattle.rw_table.specs.TableFaults.{ascends, has_shape, names_fault, row_fault, range_fault};
+ghost use Rattle.rw_table.specs.TableFaults.{has_shape, names_fault, row_fault, range_fault};
+ghost use Rattle.rw_spec.specs.Ascending.{ascends};
 ghost use Rattle.rw_table.specs.declared.fault.TableFault.TheVariants.{Range};
 
 use crate::TableFault;

@@ -1,7 +1,7 @@
 //! What no contract says: that calls succeed where memory is there, the printed texts, and examples from outside.
 
 ghost use Rattle.std.specs.Prelude.{◌≡◌, ◌<◌, IfOk, length};
-ghost use Rattle.rw_table.specs.Tabled.{IsOver};
+ghost use Rattle.rw_spec.specs.Tabled.{IsOver};
 
 use crate::{Table, TableFault};
 use rw_schema::{

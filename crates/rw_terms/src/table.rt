@@ -7,13 +7,13 @@ ghost use Rattle.rw_terms.specs.OpTables.{Adds, codes_of};
 ghost use Rattle.rw_terms.specs.OpValues.{op_value};
 
 use crate::{Op, OpFault};
-use rw_schema::{Names, OutOfMemory};
+use rw_schema::{NameIndex, OutOfMemory};
 use std::alloc::Global;
 
 /// A table of operations. Each has a name of its own, and a number: its place, from 0.
 #[derive(Drop)]
 pub struct OpTable {
-    names: Names,
+    names: NameIndex,
     ops: Vec<Op>,
     ghost named: { names ≡ map (λ op. op.name) ops.items },
 }
@@ -26,7 +26,7 @@ impl OpTable {
         ensures { entries result ≡ [] }
     {
         OpTable {
-            names: Names::new(alloc),
+            names: NameIndex::new(alloc),
             ops: Vec::new(alloc),
         }
     }

@@ -8,8 +8,8 @@ use Rattle.rw_schema.specs.Signature.{Signature, IsCategory, IsPath}
 use Rattle.rw_spec.specs.Instance.{Instance, IsInstance, Has, follow}
 use Rattle.rw_spec.specs.Natural.{Map, IsNatural, SameOn}
 use Rattle.rw_spec.specs.Pullback.{Cospan, IsCone, IsMediatingTo, IsPullback}
-use Rattle.rw_universal.specs.Pairing.{IsPairing}
-use Rattle.rw_universal.specs.Values.{HasValues}
+use Rattle.rw_spec.specs.Pairing.{IsPairing}
+use Rattle.rw_spec.specs.Values.{HasValues}
 use Rattle.rw_universal.proofs.Choice.{choose}
 use Rattle.rw_universal.proofs.Paths.{path_end, follow_has, follow_natural}
 

@@ -5,7 +5,7 @@ use Rattle.rw_schema.specs.declared.ids.ArrowId.{ArrowId}
 use Rattle.rw_schema.specs.Signature.{Signature, IsCategory, IsPath}
 use Rattle.rw_spec.specs.Instance.{Instance, Has, follow}
 use Rattle.rw_spec.specs.Natural.{Map, IsNatural}
-use Rattle.rw_universal.specs.Values.{HasValues}
+use Rattle.rw_spec.specs.Values.{HasValues}
 
 -- a path from an object leads to an object
 pub path_end : (C : Signature) → IsCategory C → (from : ℕ) (path : List ArrowId) (to : ℕ) → IsPath C from path to → from < C.objects → to < C.objects

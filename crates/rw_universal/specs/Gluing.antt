@@ -7,7 +7,7 @@ use Rattle.rw_spec.specs.Cocone.{Frame}
 use Rattle.rw_spec.specs.Homomorphism.{IsHomomorphism, after}
 use Rattle.rw_spec.specs.Instance.{Instance, Has}
 use Rattle.rw_spec.specs.Natural.{Map, SameOn}
-use Rattle.rw_universal.specs.Values.{HasValues}
+use Rattle.rw_spec.specs.Values.{HasValues}
 
 -- some part of X that meets P goes to w
 abbrev pub From : Instance → Map → (ℕ → Type 0) → ℕ → ℕ → Type 0

@@ -1,3 +1,1 @@
 pub mod Gluing
-pub mod Pairing
-pub mod Values

@@ -1,7 +1,7 @@
 -- The lists so far are those at the start and those of the rules passed.
 use Rattle.std.proofs.Common.{◌≡◌, ◌++◌, map, take}
 use Rattle.rw_schema.specs.Presentation.{signature_of}
-use Rattle.rw_table.specs.Tabled.{instance_of_table}
+use Rattle.rw_spec.specs.Tabled.{instance_of_table}
 use Rattle.rw_rule.specs.RuleLists.{RuleLists}
 use Rattle.rw_lists.specs.Fresh.{fresh_list}
 use Rattle.rw_app.proofs.kept.push_rules.Given as goal

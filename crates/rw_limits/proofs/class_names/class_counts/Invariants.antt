@@ -1,6 +1,6 @@
 -- The counts so far are those of the classes so far.
 use Rattle.std.proofs.Common.{◌≡◌, length, map, take}
-use Rattle.rw_limits.specs.Spans.{first_lists}
+use Rattle.rw_classes.specs.ClassLists.{first_lists}
 use Rattle.rw_limits.proofs.class_names.class_counts.Given as goal
 
 abbrev pub invariant-loop-each : goal.invariant-loop-each

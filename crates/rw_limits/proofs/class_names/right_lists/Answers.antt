@@ -4,7 +4,7 @@ use Rattle.std.proofs.lemmas.Grind.{common_steps}
 use Rattle.std.proofs.lemmas.List.{length-map, get_or-map, map_push}
 use Rattle.rw_schema.proofs.Lists.{map_in_more}
 use Rattle.rw_schema.specs.RowLists.{list_at}
-use Rattle.rw_limits.specs.Spans.{number_lists}
+use Rattle.rw_classes.specs.ClassLists.{number_lists}
 use Rattle.rw_limits.proofs.class_names.right_lists.Goals as goal
 
 pub loop-place-preserved : goal.loop-place-preserved

@@ -1,6 +1,7 @@
 -- The lists so far are those of the objects so far.
 use Rattle.std.proofs.Common.{◌≡◌, map, take}
-use Rattle.rw_limits.specs.Spans.{number_lists, right_classes}
+use Rattle.rw_limits.specs.Spans.{right_classes}
+use Rattle.rw_classes.specs.ClassLists.{number_lists}
 use Rattle.rw_limits.proofs.class_names.right_lists.Given as goal
 
 abbrev pub invariant-loop-place : goal.invariant-loop-place

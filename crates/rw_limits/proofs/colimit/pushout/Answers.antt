@@ -1,11 +1,12 @@
 -- Tables with two homomorphisms are a span, and its classes are the pushout.
 use Rattle.std.proofs.Common.{◌≡◌, ◌∙◌, ◌≤◌, List, ℕ, length, None, Err, ap, sym, subst}
 use Rattle.rw_schema.specs.Presentation.{signature_of, ends_of_attribute}
-use Rattle.rw_limits.specs.Clashes.{MergesEach, IsFirstOf, FirstOf}
+use Rattle.rw_classes.specs.Clashes.{MergesEach, IsFirstOf, FirstOf}
 use Rattle.rw_limits.specs.Pushouts.{PushesOut, IsPushoutOf}
-use Rattle.rw_limits.specs.Spans.{number_lists, first_lists, AreClassesBy, IsSpan}
-use Rattle.rw_limits.specs.declared.classes.Classes.{Classes}
-use Rattle.rw_limits.specs.declared.merge.Merged.{Merged}
+use Rattle.rw_limits.specs.Spans.{IsSpan}
+use Rattle.rw_classes.specs.ClassLists.{number_lists, first_lists, AreClassesBy}
+use Rattle.rw_classes.specs.declared.classes.Classes.{Classes}
+use Rattle.rw_classes.specs.declared.merge.Merged.{Merged}
 use Rattle.rw_limits.proofs.Spans.{span_of_tables, frame_of_tables, joinable, classes_of_frame}
 use Rattle.rw_limits.proofs.MergedCells.{can_merge}
 use Rattle.rw_limits.proofs.Pushes.{can_assemble, clash_pushes, pushout_is}

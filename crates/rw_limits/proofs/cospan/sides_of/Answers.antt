@@ -1,8 +1,8 @@
 -- The names of checked lists ascend, and maps between them have an image for each.
 use Rattle.std.proofs.Common.{◌≡◌, true, arith}
 use Rattle.rw_schema.specs.RowLists.{list_at}
-use Rattle.rw_table.specs.TableFaults.{ascends}
-use Rattle.rw_table.proofs.Ascending.{ascends_distinct}
+use Rattle.rw_spec.specs.Ascending.{ascends}
+use Rattle.rw_spec.proofs.Ascending.{ascends_distinct}
 use Rattle.rw_table.proofs.Checked.{checked_known, names_ascend, shape_known}
 use Rattle.rw_limits.specs.RowCospans.{cospan_in, signature_in}
 use Rattle.rw_limits.proofs.ImagesWithin.{images_within}

@@ -2,7 +2,7 @@
 use Rattle.std.proofs.Common.{◌≡◌, ◌∙◌, ℕ, List, length, map, ap, arith}
 use Rattle.rw_schema.specs.RowLists.{RowLists, list_at}
 use Rattle.rw_spec.specs.Homomorphism.{map_of}
-use Rattle.rw_table.specs.Tabled.{instance_of_table}
+use Rattle.rw_spec.specs.Tabled.{instance_of_table}
 use Rattle.rw_map.specs.Homs.{composite}
 use Rattle.rw_map.proofs.Composites.{list_more, composite_after, composite_hom}
 use Rattle.rw_map.proofs.composition.compose.Goals as goal

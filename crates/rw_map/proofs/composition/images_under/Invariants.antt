@@ -1,7 +1,7 @@
 -- The images so far are those of the names so far.
 use Rattle.std.proofs.Common.{◌≡◌, map, take}
 use Rattle.rw_spec.specs.Homomorphism.{map_of}
-use Rattle.rw_table.specs.Tabled.{instance_of_table}
+use Rattle.rw_spec.specs.Tabled.{instance_of_table}
 use Rattle.rw_map.proofs.composition.images_under.Given as goal
 
 abbrev pub invariant-loop-name : goal.invariant-loop-name

@@ -1,7 +1,7 @@
 -- Lists without a fault of shape have one image for each name.
 use Rattle.std.proofs.Common.{◌∙◌, sym}
 use Rattle.rw_schema.specs.Presentation.{signature_of}
-use Rattle.rw_table.specs.Tabled.{instance_of_table}
+use Rattle.rw_spec.specs.Tabled.{instance_of_table}
 use Rattle.rw_map.proofs.HomChecks.{shape_known}
 use Rattle.rw_map.proofs.hom.first_fault.Goals as goal
 

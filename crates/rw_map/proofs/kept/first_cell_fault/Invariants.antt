@@ -3,7 +3,7 @@ use Rattle.std.proofs.Common.{◌≡◌, map, drop}
 use Rattle.rw_schema.specs.First.{first_in}
 use Rattle.rw_schema.specs.Presentation.{ends_of_attribute}
 use Rattle.rw_spec.specs.Homomorphism.{map_of}
-use Rattle.rw_table.specs.Tabled.{instance_of_table}
+use Rattle.rw_spec.specs.Tabled.{instance_of_table}
 use Rattle.rw_map.specs.HomFaults.{lost_cell}
 use Rattle.rw_map.proofs.kept.first_cell_fault.Given as goal
 

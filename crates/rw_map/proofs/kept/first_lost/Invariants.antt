@@ -3,7 +3,7 @@ use Rattle.std.proofs.Common.{◌≡◌, drop}
 use Rattle.rw_schema.specs.First.{first_in, fault_unless}
 use Rattle.rw_schema.specs.Presentation.{ends_of_attribute}
 use Rattle.rw_spec.specs.Homomorphism.{map_of}
-use Rattle.rw_table.specs.Tabled.{instance_of_table}
+use Rattle.rw_spec.specs.Tabled.{instance_of_table}
 use Rattle.rw_map.specs.HomFaults.{keeps_at, lost_cell}
 use Rattle.rw_map.specs.declared.fault.HomFault.TheVariants.{Cell}
 use Rattle.rw_map.proofs.kept.first_lost.Given as goal

@@ -7,7 +7,7 @@ use Rattle.rw_schema.specs.declared.atom.Atom.{Atom}
 use Rattle.rw_schema.specs.Presentation.{ends_of_attribute}
 use Rattle.rw_schema.specs.RowLists.{RowLists, list_at}
 use Rattle.rw_spec.specs.Homomorphism.{map_of}
-use Rattle.rw_table.specs.Tabled.{instance_of_table}
+use Rattle.rw_spec.specs.Tabled.{instance_of_table}
 use Rattle.rw_map.proofs.Entries.{distinct_names, image_at, cell_at, cells_long, kept_is}
 use Rattle.rw_map.proofs.kept.keeps_at.Goals as goal
 

@@ -1,6 +1,6 @@
 -- The images of an object are tested, and then those that are left.
 use Rattle.std.proofs.Common.{◌∙◌, ◌<◌, ◌≤◌, ℕ, Option, length, sym}
-use Rattle.rw_table.specs.Tabled.{instance_of_table}
+use Rattle.rw_spec.specs.Tabled.{instance_of_table}
 use Rattle.rw_map.specs.HomFaults.{stray_image}
 use Rattle.rw_map.specs.declared.fault.HomFault.{HomFault}
 use Rattle.rw_map.proofs.Objects.{object_here, object_next, object_past}

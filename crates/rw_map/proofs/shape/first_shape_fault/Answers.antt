@@ -2,7 +2,7 @@
 use Rattle.std.proofs.Common.{◌∙◌, ◌<◌, ◌≤◌, ℕ, Option, length, sym}
 use Rattle.rw_schema.specs.First.{fault_unless}
 use Rattle.rw_schema.proofs.Firsts.{unless_false, unless_true}
-use Rattle.rw_table.specs.Tabled.{instance_of_table}
+use Rattle.rw_spec.specs.Tabled.{instance_of_table}
 use Rattle.rw_map.specs.HomFaults.{has_images}
 use Rattle.rw_map.specs.declared.fault.HomFault.{HomFault}
 use Rattle.rw_map.specs.declared.fault.HomFault.TheVariants.{Shape}

@@ -3,7 +3,7 @@ use Rattle.std.proofs.Common.{◌≡◌, ℕ, drop, length}
 use Rattle.std.specs.List.{range_with_len}
 use Rattle.rw_schema.specs.First.{first_in, fault_unless}
 use Rattle.rw_schema.specs.Presentation.{signature_of}
-use Rattle.rw_table.specs.Tabled.{instance_of_table}
+use Rattle.rw_spec.specs.Tabled.{instance_of_table}
 use Rattle.rw_map.specs.HomFaults.{has_images, shape_fault}
 use Rattle.rw_map.specs.declared.fault.HomFault.TheVariants.{Shape}
 use Rattle.rw_map.proofs.shape.first_shape_fault.Given as goal

@@ -4,7 +4,7 @@ use Rattle.std.proofs.lemmas.Option.{slice_get_within}
 use Rattle.rw_schema.specs.Presentation.{ends_of_arrow}
 use Rattle.rw_schema.specs.RowLists.{RowLists, list_at}
 use Rattle.rw_spec.specs.Homomorphism.{map_of}
-use Rattle.rw_table.specs.Tabled.{instance_of_table}
+use Rattle.rw_spec.specs.Tabled.{instance_of_table}
 use Rattle.rw_map.proofs.Entries.{distinct_names, image_at, value_at, row_long, square_is}
 use Rattle.rw_map.proofs.squares.commutes_at.Goals as goal
 

@@ -3,7 +3,7 @@ use Rattle.std.proofs.Common.{◌≡◌, drop}
 use Rattle.rw_schema.specs.First.{first_in, fault_unless}
 use Rattle.rw_schema.specs.Presentation.{ends_of_arrow}
 use Rattle.rw_spec.specs.Homomorphism.{map_of}
-use Rattle.rw_table.specs.Tabled.{instance_of_table}
+use Rattle.rw_spec.specs.Tabled.{instance_of_table}
 use Rattle.rw_map.specs.HomFaults.{commutes_at, square_fault}
 use Rattle.rw_map.specs.declared.fault.HomFault.TheVariants.{NotNatural}
 use Rattle.rw_map.proofs.squares.first_not_commuting.Given as goal

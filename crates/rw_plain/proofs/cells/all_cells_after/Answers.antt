@@ -8,7 +8,7 @@ use Rattle.rw_schema.specs.Presentation.{Presentation, ends_of_attribute}
 use Rattle.rw_schema.specs.RowLists.{RowLists}
 use Rattle.rw_schema.specs.Signature.{IsCategory}
 use Rattle.rw_spec.specs.Instance.{Instance}
-use Rattle.rw_table.specs.Tabled.{Tabled, IsOver, instance_of_table}
+use Rattle.rw_spec.specs.Tabled.{Tabled, IsOver, instance_of_table}
 use Rattle.rw_terms.specs.declared.code.OpCode.{OpCode}
 use Rattle.rw_rule.specs.RuleLists.{RuleLists}
 use Rattle.rw_plain.specs.PlainStep.{cell_after, names_after}

@@ -3,7 +3,7 @@ use Rattle.std.proofs.Common.{◌≡◌, ℕ, List, map, take}
 use Rattle.rw_schema.specs.First.{map_in}
 use Rattle.rw_schema.specs.Presentation.{ends_of_attribute}
 use Rattle.rw_spec.specs.Instance.{Instance}
-use Rattle.rw_table.specs.Tabled.{instance_of_table}
+use Rattle.rw_spec.specs.Tabled.{instance_of_table}
 use Rattle.rw_terms.specs.declared.code.OpCode.{OpCode}
 use Rattle.rw_plain.specs.PlainStep.{cell_after, names_after}
 use Rattle.rw_plain.specs.SetLists.{set_values}

@@ -1,6 +1,6 @@
 -- The cells at the names so far are there.
 use Rattle.std.proofs.Common.{◌≡◌, ℕ, List, map, take}
-use Rattle.rw_table.specs.Tabled.{instance_of_table}
+use Rattle.rw_spec.specs.Tabled.{instance_of_table}
 use Rattle.rw_terms.specs.declared.code.OpCode.{OpCode}
 use Rattle.rw_plain.specs.PlainStep.{cell_after}
 use Rattle.rw_plain.specs.SetLists.{set_names, set_values}

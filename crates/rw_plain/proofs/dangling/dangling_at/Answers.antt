@@ -7,7 +7,7 @@ use Rattle.rw_schema.specs.First.{fault_unless}
 use Rattle.rw_schema.specs.Presentation.{ends_of_arrow}
 use Rattle.rw_schema.specs.RowLists.{RowLists, list_at}
 use Rattle.rw_spec.specs.Instance.{Instance}
-use Rattle.rw_table.specs.Tabled.{Tabled, instance_of_table}
+use Rattle.rw_spec.specs.Tabled.{Tabled, instance_of_table}
 use Rattle.rw_table.specs.TableFaults.{table_fault}
 use Rattle.rw_table.proofs.Checked.{checked_known, row_whole}
 use Rattle.rw_rule.specs.declared.refusal.Refusal.{Refusal}

@@ -3,7 +3,7 @@ use Rattle.std.proofs.Common.{◌≡◌, ℕ, Some, List, map, slice_get, refl, 
 use Rattle.rw_schema.specs.declared.parts.ArrowDef.{ArrowDef}
 use Rattle.rw_schema.specs.Presentation.{signature_of, ends_of_arrow}
 use Rattle.rw_pattern.proofs.Shapes.{ends_at}
-use Rattle.rw_table.specs.Tabled.{instance_of_table}
+use Rattle.rw_spec.specs.Tabled.{instance_of_table}
 use Rattle.rw_plain.specs.Obstructions.{dangling_at}
 use Rattle.rw_plain.proofs.Firsts.{answer_here, answer_later}
 use Rattle.rw_plain.proofs.RuleParts.{listed_arrow_known}

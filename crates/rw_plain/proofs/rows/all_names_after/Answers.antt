@@ -3,7 +3,7 @@ use Rattle.std.proofs.Common.{map, ap, ◌∙◌, arith}
 use Rattle.std.proofs.lemmas.List.{map_push}
 use Rattle.rw_schema.specs.Presentation.{signature_of}
 use Rattle.rw_schema.specs.Signature.{Signature}
-use Rattle.rw_table.specs.Tabled.{Tabled, instance_of_table}
+use Rattle.rw_spec.specs.Tabled.{Tabled, instance_of_table}
 use Rattle.rw_plain.specs.PlainStep.{names_after}
 use Rattle.rw_plain.proofs.Ranges.{map_more}
 use Rattle.rw_plain.proofs.Room.{room_at}

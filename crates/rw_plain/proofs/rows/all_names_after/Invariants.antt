@@ -1,7 +1,7 @@
 -- The names of the objects so far are there.
 use Rattle.std.proofs.Common.{◌≡◌, map}
 use Rattle.std.specs.List.{range_with_len}
-use Rattle.rw_table.specs.Tabled.{instance_of_table}
+use Rattle.rw_spec.specs.Tabled.{instance_of_table}
 use Rattle.rw_plain.specs.PlainStep.{names_after}
 use Rattle.rw_plain.proofs.rows.all_names_after.Given as goal
 

@@ -6,7 +6,7 @@ use Rattle.rw_schema.specs.declared.signature.ArrowEnds.{ArrowEnds}
 use Rattle.rw_schema.specs.Presentation.{ends_of_arrow}
 use Rattle.rw_spec.specs.Instance.{Instance}
 use Rattle.rw_rule.specs.RuleLists.{RuleLists}
-use Rattle.rw_table.specs.Tabled.{Tabled, instance_of_table}
+use Rattle.rw_spec.specs.Tabled.{Tabled, instance_of_table}
 use Rattle.rw_plain.specs.PlainStep.{names_after, value_after}
 use Rattle.rw_plain.specs.RuleParts.{HasArrow}
 use Rattle.rw_plain.proofs.Mapped.{mapped_in_more}

@@ -2,7 +2,7 @@
 use Rattle.std.proofs.Common.{◌≡◌, map, take}
 use Rattle.rw_schema.specs.First.{map_in}
 use Rattle.rw_schema.specs.Presentation.{ends_of_arrow}
-use Rattle.rw_table.specs.Tabled.{instance_of_table}
+use Rattle.rw_spec.specs.Tabled.{instance_of_table}
 use Rattle.rw_plain.specs.PlainStep.{names_after, value_after}
 use Rattle.rw_plain.proofs.rows.all_rows_after.Given as goal
 

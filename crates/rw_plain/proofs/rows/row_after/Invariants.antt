@@ -1,6 +1,6 @@
 -- The values at the names so far are there.
 use Rattle.std.proofs.Common.{◌≡◌, map, take}
-use Rattle.rw_table.specs.Tabled.{instance_of_table}
+use Rattle.rw_spec.specs.Tabled.{instance_of_table}
 use Rattle.rw_plain.specs.PlainStep.{value_after}
 use Rattle.rw_plain.proofs.rows.row_after.Given as goal
 

@@ -12,7 +12,7 @@ use Rattle.rw_schema.specs.Signature.{Signature}
 use Rattle.rw_spec.specs.Instance.{instance_of}
 use Rattle.rw_terms.specs.declared.code.OpCode.{OpCode}
 use Rattle.rw_rule.specs.RuleLists.{RuleLists}
-use Rattle.rw_table.specs.Tabled.{Tabled}
+use Rattle.rw_spec.specs.Tabled.{Tabled}
 use Rattle.rw_plain.specs.PlainStep.{cell_after, names_after, next_after, value_after, rows_after}
 use Rattle.rw_plain.proofs.rows.rows_after.Goals as goal
 

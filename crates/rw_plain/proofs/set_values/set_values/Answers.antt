@@ -1,7 +1,7 @@
 -- The value of a set goes behind the others.
 use Rattle.std.proofs.Common.{List, ap, ◌∙◌}
 use Rattle.rw_schema.specs.declared.atom.Atom.{Atom}
-use Rattle.rw_table.specs.Tabled.{instance_of_table}
+use Rattle.rw_spec.specs.Tabled.{instance_of_table}
 use Rattle.rw_terms.specs.declared.code.OpCode.{OpCode}
 use Rattle.rw_terms.specs.OpEntries.{entries}
 use Rattle.rw_terms.specs.OpTables.{codes_of}

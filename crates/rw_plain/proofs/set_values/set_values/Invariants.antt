@@ -1,6 +1,6 @@
 -- The values of the sets so far are there.
 use Rattle.std.proofs.Common.{◌≡◌, map, take}
-use Rattle.rw_table.specs.Tabled.{instance_of_table}
+use Rattle.rw_spec.specs.Tabled.{instance_of_table}
 use Rattle.rw_terms.specs.OpEntries.{entries}
 use Rattle.rw_terms.specs.OpTables.{codes_of}
 use Rattle.rw_plain.specs.SetValues.{set_value}

@@ -4,7 +4,7 @@ use Rattle.std.proofs.lemmas.List.{length-map}
 use Rattle.rw_schema.specs.Presentation.{signature_of}
 use Rattle.rw_schema.specs.RowLists.{RowLists}
 use Rattle.rw_schema.specs.Signature.{Signature}
-use Rattle.rw_table.specs.Tabled.{instance_of_table}
+use Rattle.rw_spec.specs.Tabled.{instance_of_table}
 use Rattle.rw_terms.specs.OpEntries.{entries}
 use Rattle.rw_terms.specs.OpTables.{OpEntry, codes_of}
 use Rattle.rw_rule.specs.RuleFaults.{IsRuleOver}

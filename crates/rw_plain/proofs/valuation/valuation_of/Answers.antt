@@ -3,7 +3,7 @@ use Rattle.std.proofs.Common.{ℕ, List, pos, unwrap_or, ap, ◌∙◌}
 use Rattle.rw_schema.specs.declared.atom.Atom.{Atom}
 use Rattle.rw_schema.specs.declared.atom.Atom.TheVariants.{Int}
 use Rattle.rw_spec.specs.Instance.{Instance}
-use Rattle.rw_table.specs.Tabled.{instance_of_table}
+use Rattle.rw_spec.specs.Tabled.{instance_of_table}
 use Rattle.rw_pattern.specs.Matches.{value_of}
 use Rattle.rw_pattern.specs.PatternLists.{PatternLists}
 use Rattle.rw_rule.specs.RuleLists.{GoalLists}

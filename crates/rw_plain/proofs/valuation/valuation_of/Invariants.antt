@@ -2,7 +2,7 @@
 use Rattle.std.proofs.Common.{◌≡◌, map, pos, unwrap_or}
 use Rattle.std.specs.List.{range_with_len}
 use Rattle.rw_schema.specs.declared.atom.Atom.TheVariants.{Int}
-use Rattle.rw_table.specs.Tabled.{instance_of_table}
+use Rattle.rw_spec.specs.Tabled.{instance_of_table}
 use Rattle.rw_pattern.specs.Matches.{value_of}
 use Rattle.rw_plain.proofs.valuation.valuation_of.Given as goal
 

@@ -1,6 +1,6 @@
 -- There are at most as many ascending numbers as there are numbers below their bound.
 use Rattle.std.proofs.Common.{◌^◌, arith}
-use Rattle.rw_table.proofs.Ascending.{ascends_few}
+use Rattle.rw_spec.proofs.Ascending.{ascends_few}
 use Rattle.rw_table.proofs.names.count_of.Goals as goal
 
 pub returns-clause-few : goal.returns-clause-few

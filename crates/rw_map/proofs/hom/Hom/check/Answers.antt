@@ -1,7 +1,7 @@
 -- The lists have no fault exactly where they are a homomorphism.
 use Rattle.std.proofs.Common.{◌≡◌, ◌∙◌, None, Some, refl, sym}
 use Rattle.rw_schema.specs.Presentation.{signature_of}
-use Rattle.rw_table.specs.Tabled.{instance_of_table}
+use Rattle.rw_spec.specs.Tabled.{instance_of_table}
 use Rattle.rw_map.specs.HomFaults.{hom_fault}
 use Rattle.rw_map.proofs.Entries.{distinct_names}
 use Rattle.rw_map.proofs.HomChecks.{hom_from_none, none_from_hom}

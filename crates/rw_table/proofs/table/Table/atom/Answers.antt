@@ -3,7 +3,7 @@ use Rattle.std.proofs.Common.{◌≡◌, ◌∙◌, None, sym, ap}
 use Rattle.std.specs.Option.{option_map}
 use Rattle.rw_schema.specs.RowLists.{list_at}
 use Rattle.rw_schema.specs.Signature.{holder_of}
-use Rattle.rw_table.specs.Tabled.{cell_at}
+use Rattle.rw_spec.specs.Tabled.{cell_at}
 use Rattle.rw_table.proofs.Places.{entry_none}
 use Rattle.rw_table.proofs.table.Table.atom.Goals as goal
 

@@ -2,7 +2,7 @@
 use Rattle.std.proofs.Common.{◌<◌, ◌≡◌, length, refl, Some, slice_get, IfSome, sym, subst, arith}
 use Rattle.std.proofs.lemmas.Grind.{common_steps}
 use Rattle.rw_spec.specs.Instance.{Has}
-use Rattle.rw_table.specs.Tabled.{value_at, instance_of_table}
+use Rattle.rw_spec.specs.Tabled.{value_at, instance_of_table}
 use Rattle.rw_table.proofs.TableInstance.{value_within}
 use Rattle.std.proofs.lemmas.Option.{slice_get_read}
 use Rattle.rw_schema.specs.Signature.{Signature}

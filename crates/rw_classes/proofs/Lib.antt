@@ -1,0 +1,10 @@
+pub mod Clashes
+pub mod ClassLists
+pub mod FirstClash
+pub mod Glue
+pub mod Links
+pub mod Merging
+pub mod NoCocone
+pub mod Numbering
+pub mod Searched
+pub mod Sides

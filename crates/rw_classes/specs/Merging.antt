@@ -1,0 +1,79 @@
+-- The atoms that the parts of classes have in one attribute. A part is given by its place, and the left parts come first.
+use Rattle.std.specs.Prelude.{◌≡◌, ◌≢◌, ◌<◌, ◌≤◌, ℕ, Bool, true, nat_lt, List, length, Option, Some, None, slice_index, slice_index_or}
+use Rattle.rw_schema.specs.declared.atom.Atom.{Atom}
+use Rattle.rw_classes.specs.declared.merge.Difference.{Difference}
+use Rattle.rw_classes.specs.declared.merge.Merged.{Merged}
+use Rattle.rw_classes.specs.declared.merge.Merged.TheVariants.{Firsts, Differ}
+
+-- the cell of the part at a place, in the list of the left cells and then the right ones
+abbrev pub cell_at : List (Option Atom) → ℕ → Option Atom
+cell_at cells place = slice_index_or cells place None
+
+-- both cells have an atom, and these differ
+abbrev pub AreDifferent : Option Atom → Option Atom → Type 0
+AreDifferent (Some a) (Some b) = a ≢ b
+AreDifferent (Some a) None = ⊥
+AreDifferent None (Some b) = ⊥
+AreDifferent None None = ⊥
+
+-- the first part of class w that has an atom stands at the place
+pub record IsFirst (cells : ℕ → Option Atom) (numbers : List ℕ) (w place : ℕ) : Type 0 where
+  pub class : slice_index numbers place ≡ w
+  pub atom : Atom
+  pub has : cells place ≡ Some atom
+  pub earlier : (e : ℕ) → e < place → slice_index numbers e ≡ w → cells e ≡ None
+
+-- of each class the place of the first of its parts below n that has an atom, or none where no part has one
+pub record AreFirsts (cells : ℕ → Option Atom) (numbers : List ℕ) (n : ℕ) (firsts : List (Option ℕ)) : Type 0 where
+  pub below : (w place : ℕ) → slice_index_or firsts w None ≡ Some place → place < n
+  pub found : (w place : ℕ) → slice_index_or firsts w None ≡ Some place → IsFirst cells numbers w place
+  pub missing : (e : ℕ) → e < n → slice_index_or firsts (slice_index numbers e) None ≡ None → cells e ≡ None
+
+-- the part at the place has another atom than the first part of its class that has one
+pub record DiffersFrom (cells : ℕ → Option Atom) (numbers : List ℕ) (firsts : List (Option ℕ)) (place first : ℕ) : Type 0 where
+  pub is_first : slice_index_or firsts (slice_index numbers place) None ≡ Some first
+  pub different : AreDifferent (cells first) (cells place)
+
+-- among the parts below n it is one of the least class that differs from the first of its class, and the first such part
+pub record IsLeastDifference (cells : ℕ → Option Atom) (numbers : List ℕ) (firsts : List (Option ℕ)) (n : ℕ) (difference : Difference) : Type 0 where
+  pub within : difference.second < n
+  pub class : slice_index numbers difference.second ≡ difference.class
+  pub differs : DiffersFrom cells numbers firsts difference.second difference.first
+  pub least_class : (e first : ℕ) → e < n → DiffersFrom cells numbers firsts e first → difference.class ≤ slice_index numbers e
+  pub least_place : (e first : ℕ) → e < n → DiffersFrom cells numbers firsts e first → slice_index numbers e ≡ difference.class → difference.second ≤ e
+
+-- the least difference, or none where there is none
+abbrev pub LeastDifference : (ℕ → Option Atom) → List ℕ → List (Option ℕ) → ℕ → Option Difference → Type 0
+LeastDifference cells numbers firsts n None = (e first : ℕ) → e < n → DiffersFrom cells numbers firsts e first → ⊥
+LeastDifference cells numbers firsts n (Some difference) = IsLeastDifference cells numbers firsts n difference
+
+-- a difference in the class comes before the one that was found
+abbrev pub comes_before : ℕ → Option Difference → Bool
+comes_before class None = true
+comes_before class (Some difference) = nat_lt class difference.class
+
+-- a is the atom of the first part of class w that has one, and b that of the first later one that differs
+pub record IsClash (cells : ℕ → Option Atom) (numbers : List ℕ) (w first second : ℕ) (a b : Atom) : Type 0 where
+  pub order : first < second
+  pub within : second < length numbers
+  pub first_class : slice_index numbers first ≡ w
+  pub second_class : slice_index numbers second ≡ w
+  pub first_atom : cells first ≡ Some a
+  pub second_atom : cells second ≡ Some b
+  pub differ : a ≢ b
+  pub none_before : (e : ℕ) → e < first → slice_index numbers e ≡ w → cells e ≡ None
+  pub same_between : (e : ℕ) (atom : Atom) → first < e → e < second → slice_index numbers e ≡ w → cells e ≡ Some atom → atom ≡ a
+
+-- two atoms of one class are the same, and of each class the first part that has an atom is known
+pub record AreMerged (cells : ℕ → Option Atom) (numbers : List ℕ) (classes : ℕ) (firsts : List (Option ℕ)) : Type 0 where
+  pub each : length firsts ≡ classes
+  pub found : AreFirsts cells numbers (length numbers) firsts
+  pub same : (e other : ℕ) (a b : Atom) → e < length numbers → other < length numbers → slice_index numbers e ≡ slice_index numbers other
+      → cells e ≡ Some a → cells other ≡ Some b → a ≡ b
+
+-- the first part of each class that has an atom, where the atoms of each class are the same; else the clash of the least class
+abbrev pub Merges : (ℕ → Option Atom) → List ℕ → ℕ → Merged → Type 0
+Merges cells numbers classes (Firsts firsts) = AreMerged cells numbers classes firsts.items
+Merges cells numbers classes (Differ difference) =
+    ((a : Atom) × (b : Atom) × IsClash cells numbers difference.class difference.first difference.second a b)
+    × ((w first second : ℕ) (a b : Atom) → w < difference.class → IsClash cells numbers w first second a b → ⊥)
