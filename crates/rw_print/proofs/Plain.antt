@@ -4,9 +4,10 @@ use Rattle.serde_json.specs.Data.{Data}
 use Rattle.serde_json.specs.Written.{has_float}
 use Rattle.rw_schema.specs.Presentation.{Presentation}
 use Rattle.rw_rule.specs.declared.refusal.Refusal.{Refusal}
-use Rattle.rw_rule.specs.declared.refusal.Refusal.TheVariants.{Dangling, NoValue, TooLarge}
+use Rattle.rw_rule.specs.declared.refusal.Refusal.TheVariants.{Identification, Dangling, NoValue, TooLarge, Clash}
 use Rattle.rw_lists.specs.News.{NewsLists}
 use Rattle.rw_print.specs.declared.last.End.{End}
+use Rattle.rw_print.proofs.PlainAtoms.{no_float_in_atom}
 use Rattle.rw_print.specs.Lines.{list_data, tuple_data, matches_data, count_data, refusal_data, refused_data, news_data, applied_data, step_data, check_data, end_data}
 
 -- a list has no float where no item has one
@@ -29,9 +30,11 @@ no_float_in_matches name tuples = rw (no_float_in_tuples tuples) refl
 
 -- an obstruction has no float
 no_float_in_refusal : (schema : Presentation) (refusal : Refusal) → has_float (refusal_data schema refusal) ≡ false
+no_float_in_refusal schema (Identification id first second) = refl
 no_float_in_refusal schema (Dangling arrow part) = refl
 no_float_in_refusal schema (NoValue part attr) = refl
 no_float_in_refusal schema (TooLarge id) = refl
+no_float_in_refusal schema (Clash id name attr first second) = rw (no_float_in_atom first, no_float_in_atom second) refl
 
 -- a tuple with its obstruction has no float
 no_float_in_refused : (schema : Presentation) (refused : List ℕ × Refusal) → has_float (refused_data schema refused) ≡ false

@@ -9,25 +9,11 @@ use Rattle.rw_schema.specs.declared.ids.AttrId.{AttrId}
 use Rattle.rw_schema.specs.declared.ids.ObjectId.{ObjectId}
 use Rattle.rw_schema.specs.Presentation.{Presentation}
 use Rattle.rw_schema.specs.RowLists.{RowLists}
-use Rattle.rw_print.specs.Limits.{atom_data, cell_data, cells_data, limit_data, clash_data}
+use Rattle.rw_print.specs.Limits.{cells_data, limit_data, clash_data}
+use Rattle.rw_print.specs.Atoms.{atom_data, cell_data}
 use Rattle.rw_print.specs.Lines.{list_data}
+use Rattle.rw_print.proofs.PlainAtoms.{no_float_in_atom, no_float_in_cell}
 use Rattle.rw_print.proofs.Plain.{no_float_in, no_float_in_counts, no_float_in_tuples}
-
--- a whole number is no float
-no_float_in_integer : (whole : ℤ) → has_float (number (of_integer whole)) ≡ false
-no_float_in_integer (pos n) = refl
-no_float_in_integer (negsuc n) = refl
-
--- an atom has no float
-no_float_in_atom : (atom : Atom) → has_float (atom_data atom) ≡ false
-no_float_in_atom (atoms.Int whole) = no_float_in_integer whole
-no_float_in_atom (atoms.Text text) = refl
-no_float_in_atom (atoms.Bool truth) = refl
-
--- a cell has no float
-no_float_in_cell : (cell : Option Atom) → has_float (cell_data cell) ≡ false
-no_float_in_cell None = refl
-no_float_in_cell (Some atom) = no_float_in_atom atom
 
 -- the cells of an attribute have no float
 no_float_in_cells : (cells : List (Option Atom)) → has_float (cells_data cells) ≡ false

@@ -8,18 +8,8 @@ use Rattle.rw_schema.specs.declared.ids.AttrId.{AttrId}
 use Rattle.rw_schema.specs.declared.ids.ObjectId.{ObjectId}
 use Rattle.rw_schema.specs.Presentation.{Presentation}
 use Rattle.rw_schema.specs.RowLists.{RowLists}
+use Rattle.rw_print.specs.Atoms.{atom_data, cell_data}
 use Rattle.rw_print.specs.Lines.{count_data, list_data, tuple_data, name_of_object, name_of_attribute}
-
--- an atom, as it is read
-abbrev pub atom_data : Atom → Data
-atom_data (atoms.Int whole) = number (of_integer whole)
-atom_data (atoms.Text text) = string text
-atom_data (atoms.Bool truth) = boolean truth
-
--- an atom, or null where the cell is blank
-abbrev pub cell_data : Option Atom → Data
-cell_data None = null
-cell_data (Some atom) = atom_data atom
 
 -- the cells of an attribute
 abbrev pub cells_data : List (Option Atom) → Data

@@ -12,7 +12,8 @@ use Rattle.rw_schema.specs.RowLists.{list_at}
 use Rattle.rw_schema.specs.SchemaFaults.{arrow_name, attribute_name}
 use Rattle.rw_schema.specs.SectionName.{name_of_section}
 use Rattle.rw_rule.specs.declared.refusal.Refusal.{Refusal}
-use Rattle.rw_rule.specs.declared.refusal.Refusal.TheVariants.{Dangling, NoValue, TooLarge}
+use Rattle.rw_rule.specs.declared.refusal.Refusal.TheVariants.{Identification, Dangling, NoValue, TooLarge, Clash}
+use Rattle.rw_print.specs.Atoms.{atom_data}
 use Rattle.rw_lists.specs.News.{NewsLists}
 use Rattle.rw_print.specs.declared.last.End.{End}
 use Rattle.rw_print.specs.declared.last.End.TheVariants.{Done, Failed, Spent}
@@ -58,11 +59,17 @@ name_of_arrow schema id = list_at (map arrow_name schema.arrows) id.0
 abbrev pub name_of_attribute : Presentation → AttrId → List ℕ
 name_of_attribute schema id = list_at (map attribute_name schema.attributes) id.0
 
--- ["dangling",arrow,part], ["no_value",attribute,right part], ["too_large",object]
+-- ["identification",object,first,second], ["dangling",arrow,part], ["no_value",attribute,right part], ["too_large",object],
+-- ["clash",object,name,attribute,first,second]
 abbrev pub refusal_data : Presentation → Refusal → Data
+refusal_data schema (Identification id first second) =
+    list_data (string (codes "identification") ∷ string (name_of_object schema id) ∷ count_data first ∷ count_data second ∷ [])
 refusal_data schema (Dangling arrow part) = list_data (string (codes "dangling") ∷ string (name_of_arrow schema arrow) ∷ count_data part ∷ [])
 refusal_data schema (NoValue part attr) = list_data (string (codes "no_value") ∷ string (name_of_attribute schema attr) ∷ count_data part ∷ [])
 refusal_data schema (TooLarge id) = list_data (string (codes "too_large") ∷ string (name_of_object schema id) ∷ [])
+refusal_data schema (Clash id name attr first second) =
+    list_data (string (codes "clash") ∷ string (name_of_object schema id) ∷ count_data name ∷ string (name_of_attribute schema attr)
+    ∷ atom_data first ∷ atom_data second ∷ [])
 
 -- [tuple,obstruction]
 abbrev pub refused_data : Presentation → List ℕ × Refusal → Data
@@ -102,6 +109,8 @@ end_data end fuel lists sizes =
 
 -- the obstruction names an arrow, an attribute or an object of the schema
 abbrev pub IsKnown : Presentation → Refusal → Type 0
+IsKnown schema (Identification id first second) = id.0 < length schema.objects
 IsKnown schema (Dangling arrow part) = arrow.0 < length schema.arrows
 IsKnown schema (NoValue part attr) = attr.0 < length schema.attributes
 IsKnown schema (TooLarge id) = id.0 < length schema.objects
+IsKnown schema (Clash id name attr first second) = (id.0 < length schema.objects) × (attr.0 < length schema.attributes)

@@ -1,6 +1,7 @@
 //! The lines that the program prints: each is the compact text of one JSON value and a line feed.
 #![tactic(auto)]
 
+mod atom;
 mod check;
 mod fault;
 mod last;

@@ -3,9 +3,11 @@
 ghost use Rattle.std.specs.Prelude.{◌≡◌, ◌<◌, ◌≤◌, IfOk, length, map};
 ghost use Rattle.serde_json.specs.View.{view};
 ghost use Rattle.rw_spec.specs.Tabled.{IsOver};
-ghost use Rattle.rw_print.specs.Limits.{atom_data, cell_data, cells_data, limit_data, clash_data, large_data};
+ghost use Rattle.rw_print.specs.Limits.{cells_data, limit_data, clash_data, large_data};
+ghost use Rattle.rw_print.specs.Atoms.{atom_data, cell_data};
 ghost use Rattle.rw_print.specs.Lines.{line, count_data, tuple_data};
 
+use crate::atom::{atom_value, cell_value};
 use crate::line::{counts_of, line_of};
 use crate::refused::{attribute_name, object_name};
 use rw_schema::{ArrowId, Atom, AttrId, ObjectId, OutOfMemory, PartMap, Rows, Schema};
@@ -120,27 +122,6 @@ fn cell_values(alloc: Global, cells: &[Option<Atom>]) -> Result<Vec<Value>, Allo
         values.push(cell_value(alloc, cell)?)?;
     }
     Ok(values)
-}
-
-/// The atom, or `null` where the cell is blank.
-fn cell_value(alloc: Global, cell: &Option<Atom>) -> Result<Value, AllocError>
-    ensures { IfOk result (λ value. view value ≡ cell_data cell.now) }
-{
-    match cell {
-        Some(atom) => atom_value(alloc, atom),
-        None => Ok(Value::Null),
-    }
-}
-
-/// The atom, as it is read.
-fn atom_value(alloc: Global, atom: &Atom) -> Result<Value, AllocError>
-    ensures { IfOk result (λ value. view value ≡ atom_data atom.now) }
-{
-    match atom {
-        Atom::Int(number) => Ok(Value::from(*number)),
-        Atom::Text(text) => Value::try_from_str(alloc, text.as_str()),
-        Atom::Bool(truth) => Ok(Value::from(*truth)),
-    }
 }
 
 /// The line `{"clash":[object,part,attribute,first,second]}`, with the names of the object and the attribute.

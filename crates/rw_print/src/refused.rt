@@ -3,12 +3,14 @@
 ghost use Rattle.std.specs.Prelude.{◌≡◌, ◌<◌, IfOk, length, map};
 ghost use Rattle.std.specs.List.{All};
 ghost use Rattle.serde_json.specs.View.{view};
+ghost use Rattle.rw_rule.specs.declared.refusal.Refusal.TheVariants.{Clash};
 ghost use Rattle.rw_print.specs.Lines.{name_of_arrow, name_of_attribute, name_of_object, refusal_data, refused_data, IsKnown};
 
+use crate::atom::atom_value;
 use crate::line::counts_of;
 use rw_pattern::Tuple;
 use rw_rule::Refusal;
-use rw_schema::{ArrowId, AttrId, ObjectId, Schema};
+use rw_schema::{ArrowId, Atom, AttrId, ObjectId, Schema};
 use serde_json::{Value, json};
 use std::alloc::{AllocError, Global};
 
@@ -33,13 +35,20 @@ pub(crate) fn object_name(schema: &Schema, object: ObjectId) -> &str
     schema.object(object).as_str()
 }
 
-/// `["dangling",arrow,part]`, `["no_value",attribute,part]` or `["too_large",object]`, with the name of the arrow, the
-/// attribute or the object.
+/// `["identification",object,first,second]`, `["dangling",arrow,part]`, `["no_value",attribute,part]`,
+/// `["too_large",object]` or `["clash",object,name,attribute,first,second]`, with the names of arrows, attributes and objects.
 fn refusal_value(alloc: Global, schema: &Schema, refusal: &Refusal) -> Result<Value, AllocError>
     requires { IsKnown schema.now refusal.now }
     ensures { IfOk result (λ value. view value ≡ refusal_data schema.now refusal.now) }
 {
     match refusal {
+        Refusal::Identification {
+            object,
+            first,
+            second,
+        } => {
+            json!(in alloc; ["identification", object_name(schema, *object), *first, *second])
+        }
         Refusal::Dangling { arrow, part } => {
             json!(in alloc; ["dangling", arrow_name(schema, *arrow), *part])
         }
@@ -49,7 +58,35 @@ fn refusal_value(alloc: Global, schema: &Schema, refusal: &Refusal) -> Result<Va
         Refusal::TooLarge { object } => {
             json!(in alloc; ["too_large", object_name(schema, *object)])
         }
+        Refusal::Clash {
+            object,
+            name,
+            attr,
+            first,
+            second,
+        } => clash_value(alloc, schema, *object, *name, *attr, first, second),
     }
+}
+
+/// `["clash",object,name,attribute,first,second]`
+fn clash_value(
+    alloc: Global,
+    schema: &Schema,
+    object: ObjectId,
+    name: u32,
+    attr: AttrId,
+    first: &Atom,
+    second: &Atom,
+) -> Result<Value, AllocError>
+    requires object { object.0 < length schema.now.objects }
+    requires attr { attr.0 < length schema.now.attributes }
+    ensures { IfOk result (λ value. view value ≡ refusal_data schema.now (Clash object name attr first.now second.now)) }
+{
+    let first = atom_value(alloc, first)?;
+    let second = atom_value(alloc, second)?;
+    let object = object_name(schema, object);
+    let attribute = attribute_name(schema, attr);
+    json!(in alloc; ["clash", object, name, attribute, first, second])
 }
 
 /// `[tuple,obstruction]`

@@ -1,12 +1,11 @@
 -- Names that count from 0.
 use Rattle.std.proofs.Common.{◌≡◌, ◌∙◌, ℕ, zero, suc, ◌+◌, ◌<◌, true, nat_lt, List, Contains, length, get_or, refl, sym, arith, zero-add}
-use Rattle.std.specs.List.{list_all, range_with_len}
+use Rattle.std.specs.List.{range_with_len}
 use Rattle.std.proofs.lemmas.Bool.{and_from, lt-ltb}
 use Rattle.std.proofs.lemmas.List.FromFn.{length-range_with_len, get_or-range_with_len}
 use Rattle.rw_spec.specs.Distinct.{AreDistinct}
 use Rattle.rw_spec.specs.Instance.{look}
 use Rattle.rw_spec.proofs.Look.{look_at}
-use Rattle.rw_spec.proofs.Sequences.{list_all_from_contained}
 use Rattle.rw_spec.specs.Ascending.{ascends}
 
 -- each number stands at its own place

@@ -8,7 +8,7 @@ use Rattle.rw_schema.specs.declared.atom.Atom.{Atom}
 use Rattle.rw_schema.specs.declared.parts.Equation as equations
 use Rattle.rw_schema.specs.declared.signature.ArrowEnds.{ArrowEnds}
 use Rattle.rw_schema.specs.declared.signature.AttrEnds.{AttrEnds}
-use Rattle.rw_schema.specs.First.{or_else, first_in, fault_unless, all_in}
+use Rattle.rw_schema.specs.First.{or_else, fault_unless, all_in}
 use Rattle.rw_schema.specs.RowLists.{RowLists, list_at}
 use Rattle.rw_schema.specs.Signature.{Signature}
 use Rattle.rw_schema.proofs.Firsts.{or_else_none, passed_unless, none_at}

@@ -1,5 +1,5 @@
 -- When the lists of an instance have no fault.
-use Rattle.std.proofs.Common.{◌≡◌, ◌==◌, ◌∙◌, ℕ, zero, suc, ◌+◌, ◌<◌, true, List, [], ◌∷◌, length, map, Option, Some, None, slice_get, slice_index, nat_lt, refl, sym, ap, subst, add-zero, zero-add, arith, eq-eqb}
+use Rattle.std.proofs.Common.{◌≡◌, ◌==◌, ◌∙◌, ℕ, ◌<◌, true, List, [], ◌∷◌, length, map, Option, Some, None, slice_get, slice_index, nat_lt, refl, sym, ap, subst, zero-add, eq-eqb}
 use Rattle.std.specs.List.{Contains, list_any, list_all, range_with_len}
 use Rattle.std.proofs.lemmas.Bool.{and_parts}
 use Rattle.std.proofs.lemmas.List.{length-map, get_or-map, get_or_default}
@@ -12,7 +12,7 @@ use Rattle.rw_schema.specs.declared.ids.ArrowId.{ArrowId}
 use Rattle.rw_schema.specs.declared.signature.ArrowEnds.{ArrowEnds}
 use Rattle.rw_schema.specs.declared.signature.AttrEnds.{AttrEnds}
 use Rattle.rw_schema.specs.Atoms.{kind_of, is_same_kind}
-use Rattle.rw_schema.specs.First.{first_in, fault_unless, all_in}
+use Rattle.rw_schema.specs.First.{fault_unless, all_in}
 use Rattle.rw_schema.specs.RowLists.{RowLists, list_at}
 use Rattle.rw_schema.specs.Signature.{Signature, IsPath, IsCategory}
 use Rattle.rw_schema.proofs.Firsts.{unless_true, none_from_each}

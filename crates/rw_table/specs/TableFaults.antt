@@ -1,5 +1,5 @@
 -- When lists are an instance, and the first fault of those that are none.
-use Rattle.std.specs.Prelude.{◌≡◌, ◌==◌, ℕ, Bool, true, ◌&&◌, nat_lt, length, List, [], ◌∷◌, Option, Some, None, Result, Ok, Err, slice_index}
+use Rattle.std.specs.Prelude.{◌≡◌, ◌==◌, ℕ, Bool, true, ◌&&◌, nat_lt, length, List, Option, Some, None, Result, Ok, Err, slice_index}
 use Rattle.std.specs.List.{list_all, list_any}
 use Rattle.rw_schema.specs.declared.atom.Atom.{Atom}
 use Rattle.rw_schema.specs.declared.atom.Kind as kinds

@@ -1,6 +1,6 @@
 use Rattle.std.proofs.Common.{◌≡◌, map, take}
 use Rattle.serde_json.specs.View.{view}
-use Rattle.rw_print.specs.Limits.{cell_data}
+use Rattle.rw_print.specs.Atoms.{cell_data}
 use Rattle.rw_print.proofs.limit.cell_values.Given as goal
 
 abbrev pub invariant-loop-cell : goal.invariant-loop-cell
