@@ -3,6 +3,7 @@ pub mod Entries
 mod Examples
 pub mod Injectivity
 pub mod Maps
+pub mod MatchesAscend
 pub mod Naturality
 pub mod Over
 pub mod PartNames

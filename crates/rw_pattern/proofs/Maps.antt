@@ -1,20 +1,21 @@
 -- What holds of images that are a map of patterns.
-use Rattle.std.proofs.Common.{◌≡◌, ℕ, ◌+◌, ◌<◌, ◌≤◌, true, nat_le, nat_lt, Option, Some, None, List, sum, length, slice_get, slice_index, refl, sym, zero-add, arith, eqb-true, ltb-true}
-use Rattle.std.proofs.lemmas.Bool.{and_parts, leb-true}
-use Rattle.std.proofs.lemmas.Option.{slice_get-get_or}
+use Rattle.std.proofs.Common.{◌≡◌, ℕ, ◌+◌, ◌<◌, ◌≤◌, true, nat_le, nat_lt, Option, Some, None, List, sum, length, slice_get, slice_index, refl, sym, ap, ◌∙◌, subst, zero-add, arith, eqb-true, ltb-true}
+use Rattle.std.proofs.lemmas.Bool.{and_parts, and_from, leb-true, le-leb, lt-ltb, eq-eqb}
+use Rattle.std.proofs.lemmas.Option.{slice_get-get_or, slice_get_within, get_or_from_slice_get}
 use Rattle.rw_schema.specs.declared.signature.ArrowEnds.{ArrowEnds}
 use Rattle.rw_schema.specs.First.{or_else, first_in, fault_unless, all_in}
 use Rattle.rw_schema.specs.RowLists.{list_at}
 use Rattle.rw_schema.specs.Signature.{Signature, IsCategory}
-use Rattle.rw_schema.proofs.Firsts.{or_else_none, passed_unless, first_none}
+use Rattle.rw_schema.proofs.Firsts.{or_else_none, passed_unless, first_none, none_from_each, unless_true}
+use Rattle.rw_spec.specs.Instance.{Has}
 use Rattle.rw_spec.specs.Natural.{IsNatural}
 use Rattle.rw_pattern.specs.declared.map_fault.MapFault.{MapFault}
 use Rattle.rw_pattern.specs.declared.map_fault.MapFault.TheVariants.{Shape, Range, NotNatural}
-use Rattle.rw_pattern.specs.MapFaults.{image_of, has_images, has_map_shape, image_fault, commutes_at, square_fault, map_fault}
+use Rattle.rw_pattern.specs.MapFaults.{IsMapOf, image_of, has_images, has_map_shape, image_fault, commutes_at, square_fault, map_fault}
 use Rattle.rw_pattern.specs.PatternLists.{PatternLists, size_of, instance_of_pattern}
 use Rattle.rw_pattern.proofs.PartNames.{part_below, has_part}
 use Rattle.rw_pattern.proofs.Places.{parts_within}
-use Rattle.rw_spec.proofs.Sequences.{all_in_at}
+use Rattle.rw_spec.proofs.Sequences.{all_in_at, all_in_from_each}
 use Rattle.rw_pattern.proofs.Shapes.{IsPattern, row_long}
 
 -- there are at least as many lists as objects
@@ -115,3 +116,57 @@ natural_from_map C from to images is none =
           eqb-true (image_of images ends.target.0 value) (slice_index (list_at to.rows arrow) (image_of images ends.source.0 part))
           (map_is.squares arrow ends part value arrow_is (slice_get-get_or row part 0 short));
     }
+
+-- images without a fault are a map of patterns
+pub map_from_none : (C : Signature) (from to : PatternLists) (images : List (List ℕ)) → IsPattern C from → map_fault C from to images ≡ None → IsMapOf C from to images
+map_from_none C from to images is none =
+    let map_is : IsMap C from to images = is_map C from to images none in
+    record {
+      lists = lists_long from images map_is.shape;
+      each = λ object within. images_long from images object map_is.shape within;
+      natural = natural_from_map C from to images is none;
+    }
+
+-- the images of a map of patterns have the right shape
+shape_of_map : (C : Signature) (from to : PatternLists) (images : List (List ℕ)) → IsMapOf C from to images → has_map_shape from images ≡ true
+shape_of_map C from to images is =
+    and_from (nat_le (length from.sizes) (length images)) (all_in (has_images images) 0 from.sizes) (le-leb (length from.sizes) (length images) is.lists)
+    (all_in_from_each (has_images images) 0 from.sizes (λ object size there.
+    let within : object < length from.sizes = slice_get_within from.sizes object size there in
+    let size_is : size_of from object ≡ size = get_or_from_slice_get from.sizes object size 0 there in
+    rw (zero-add object) (eq-eqb (length (list_at images object)) size (is.each object within ∙ size_is))))
+
+-- no image of a map of patterns is out of range
+range_of_map : (C : Signature) (from to : PatternLists) (images : List (List ℕ)) → IsPattern C from → IsMapOf C from to images
+    → first_in (image_fault to images) 0 from.sizes ≡ None
+range_of_map C from to images pattern is =
+    none_from_each (image_fault to images) from.sizes (λ object size there.
+    let within : object < length from.sizes = slice_get_within from.sizes object size there in
+    let fault : ℕ → ℕ → Option MapFault = λ part image. fault_unless (nat_lt image (size_of to object)) (Range (record { 0 = object }) part) in
+    none_from_each fault (list_at images object) (λ part image listed.
+    let short : part < length (list_at images object) = slice_get_within (list_at images object) part image listed in
+    let has : Has (instance_of_pattern from) object part = has_part from object part (rw (← is.each object within) short) in
+    let image_is : image_of images object part ≡ image = get_or_from_slice_get (list_at images object) part image 0 listed in
+    let below : image < size_of to object =
+    subst (λ (n : ℕ). n < size_of to object) image_is (part_below to object (image_of images object part) (is.natural.parts object part (rw (← pattern.sizes_long) within) has)) in
+    unless_true (nat_lt image (size_of to object)) (Range (record { 0 = object }) part) (lt-ltb image (size_of to object) below)))
+
+-- a map of patterns commutes with each arrow
+squares_of_map : (C : Signature) (from to : PatternLists) (images : List (List ℕ)) → IsPattern C from → IsMapOf C from to images
+    → first_in (square_fault from to images) 0 C.arrows ≡ None
+squares_of_map C from to images pattern is =
+    none_from_each (square_fault from to images) C.arrows (λ arrow ends there.
+    let row : List ℕ = list_at from.rows arrow in
+    let fault : ℕ → ℕ → Option MapFault = λ part value. fault_unless (commutes_at to images arrow ends part value) (NotNatural (record { 0 = arrow }) part) in
+    none_from_each fault row (λ part value listed.
+    let short : part < length row = slice_get_within row part value listed in
+    let has : Has (instance_of_pattern from) ends.source.0 part = has_part from ends.source.0 part (rw (← row_long C from arrow ends pattern there) short) in
+    let value_is : slice_index row part ≡ value = get_or_from_slice_get row part value 0 listed in
+    let image : ℕ = slice_index (list_at to.rows arrow) (image_of images ends.source.0 part) in
+    let same : image_of images ends.target.0 value ≡ image = ap (image_of images ends.target.0) (sym value_is) ∙ is.natural.commutes arrow ends part there has in
+    unless_true (commutes_at to images arrow ends part value) (NotNatural (record { 0 = arrow }) part) (eq-eqb (image_of images ends.target.0 value) image same)))
+
+-- a map of patterns has no fault
+pub none_from_map : (C : Signature) (from to : PatternLists) (images : List (List ℕ)) → IsPattern C from → IsMapOf C from to images → map_fault C from to images ≡ None
+none_from_map C from to images pattern is =
+    no_map_fault C from to images (shape_of_map C from to images is) (range_of_map C from to images pattern is) (squares_of_map C from to images pattern is)

@@ -43,6 +43,12 @@ map_fault C from to images =
     (or_else (first_in (image_fault to images) 0 from.sizes)
     (first_in (square_fault from to images) 0 C.arrows))
 
+-- one image for each part of the one pattern, and the map that they are is natural; lists beyond the objects are not looked at
+pub record IsMapOf (C : Signature) (from to : PatternLists) (images : List (List ℕ)) : Type 0 where
+  pub lists : length from.sizes ≤ length images
+  pub each : (object : ℕ) → object < length from.sizes → length (list_at images object) ≡ size_of from object
+  pub natural : IsNatural C (instance_of_pattern from) (instance_of_pattern to) (image_of images)
+
 -- what a check of the images answers
 abbrev pub ChecksMap : Signature → PatternLists → PatternLists → List (List ℕ) → Result Unit MapFault → Type 0
 ChecksMap C from to images (Ok done) = map_fault C from to images ≡ None

@@ -1,11 +1,12 @@
 //! Maps between patterns.
 
-ghost use Rattle.std.specs.Prelude.{◌≡◌, ◌<◌, ◌≤◌, ◌==◌, true, None, OnOk, length, map, nat_lt, slice_index};
+ghost use Rattle.std.specs.Prelude.{◌≡◌, ◌<◌, ◌≤◌, ◌==◌, ◌↔◌, IsTrue, true, None, length, map, nat_lt, slice_index};
+ghost use Rattle.std.specs.Result.{is_ok};
 ghost use Rattle.rw_schema.specs.First.{all_in, first_in, fault_unless};
 ghost use Rattle.rw_schema.specs.Presentation.{signature_of, ends_of_arrow};
 ghost use Rattle.rw_schema.specs.RowLists.{list_at};
 ghost use Rattle.rw_spec.specs.Natural.{IsNatural};
-ghost use Rattle.rw_pattern.specs.MapFaults.{ChecksMap, has_images, has_map_shape, image_fault, image_of, square_fault};
+ghost use Rattle.rw_pattern.specs.MapFaults.{ChecksMap, IsMapOf, has_images, has_map_shape, image_fault, image_of, square_fault};
 ghost use Rattle.rw_pattern.specs.PatternFaults.{IsPatternOf};
 ghost use Rattle.rw_pattern.specs.PatternLists.{size_of, instance_of_pattern};
 ghost use Rattle.rw_pattern.specs.declared.map_fault.MapFault.TheVariants.{Range, NotNatural};
@@ -24,7 +25,7 @@ pub fn check_map(
     requires from { IsPatternOf (signature_of schema.now) from.now }
     requires to { IsPatternOf (signature_of schema.now) to.now }
     ensures fault { ChecksMap (signature_of schema.now) from.now to.now images.now result }
-    ensures natural { OnOk result (IsNatural (signature_of schema.now) (instance_of_pattern from.now) (instance_of_pattern to.now) (image_of images.now)) }
+    ensures exact { IsTrue (is_ok result) ↔ IsMapOf (signature_of schema.now) from.now to.now images.now }
 {
     if !is_map_shaped(from, images) {
         return Err(MapFault::Shape);

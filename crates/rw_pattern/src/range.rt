@@ -4,6 +4,7 @@ ghost use Rattle.std.specs.Prelude.{◌≡◌, ◌<◌, true, All, length, map, 
 ghost use Rattle.std.specs.List.{list_all};
 ghost use Rattle.rw_schema.specs.First.{all_in};
 ghost use Rattle.rw_schema.specs.Presentation.{signature_of, ends_of_arrow};
+ghost use Rattle.rw_schema.specs.Signature.{IsCategory};
 ghost use Rattle.rw_pattern.specs.PatternFaults.{has_part as stands_on_part, has_shape, is_in_range, are_in_range as all_in_range};
 ghost use Rattle.rw_pattern.specs.PatternLists.{holders_in};
 
@@ -15,7 +16,8 @@ pub fn are_in_range(schema: &Schema, pattern: &Pattern) -> bool
     requires shape { has_shape (signature_of schema.now) pattern.now ≡ true }
     requires holders { pattern.now.holders ≡ holders_in (signature_of schema.now) }
     requires attributes { All (λ entry. entry.attr.0 < length schema.now.attributes) pattern.now.cells }
-    ensures { result ≡ all_in_range (signature_of schema.now) pattern.now }
+    ensures value { result ≡ all_in_range (signature_of schema.now) pattern.now }
+    ensures category { IsCategory (signature_of schema.now) }
 {
     have_images(schema, pattern) && have_parts(schema, pattern)
 }
@@ -23,7 +25,8 @@ pub fn are_in_range(schema: &Schema, pattern: &Pattern) -> bool
 /// Whether each image of each row is a part of the arrow's target.
 fn have_images(schema: &Schema, pattern: &Pattern) -> bool
     requires { has_shape (signature_of schema.now) pattern.now ≡ true }
-    ensures { result ≡ all_in (is_in_range pattern.now) 0 (map ends_of_arrow schema.now.arrows) }
+    ensures value { result ≡ all_in (is_in_range pattern.now) 0 (map ends_of_arrow schema.now.arrows) }
+    ensures category { IsCategory (signature_of schema.now) }
 {
     for (number, arrow) in schema.arrow_list().iter().enumerate() {
         if !are_below(

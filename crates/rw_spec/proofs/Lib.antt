@@ -2,7 +2,9 @@ pub mod Ascending
 pub mod Distinct
 pub mod EachOnce
 pub mod Look
+pub mod OneOrder
 pub mod Ranges
 pub mod Sequences
 pub mod Signatures
 pub mod Tuples
+pub mod TuplesAscend

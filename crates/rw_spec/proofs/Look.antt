@@ -6,7 +6,7 @@ use Rattle.rw_spec.specs.Distinct.{AreDistinct}
 use Rattle.rw_spec.specs.Instance.{look}
 
 -- an element stands at the first place, or among the others
-contains_cases : {X : Type 0} (y : X) (xs : List X) (x : X) → Contains (y ∷ xs) x → (y ≡ x) ⊎ Contains xs x
+pub contains_cases : {X : Type 0} (y : X) (xs : List X) (x : X) → Contains (y ∷ xs) x → (y ≡ x) ⊎ Contains xs x
 contains_cases y xs x (zero, within, there) = inl there
 contains_cases y xs x (suc k, within, there) = inr (k, omega arith, there)
 

@@ -6,7 +6,7 @@ use Rattle.std.proofs.lemmas.List.FromFn.{length-range_with_len}
 use Rattle.rw_classes.specs.Classes.{AreClasses}
 use Rattle.rw_classes.specs.Links.{AreUnited, AreRootClasses, Descends}
 use Rattle.rw_classes.proofs.Numbering.{singletons_descend, classes_from_trees}
-use Rattle.rw_limits.proofs.classes.join.Goals as goal
+use Rattle.rw_classes.proofs.classes.join.Goals as goal
 
 pub unite_all-requires-clause-descends : goal.unite_all-requires-clause-descends
 unite_all-requires-clause-descends c =

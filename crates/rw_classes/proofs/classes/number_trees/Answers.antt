@@ -1,8 +1,8 @@
 use Rattle.std.proofs.Common.{◌≡◌, ◌++◌, ℕ, List, [], ◌∷◌, length, get_or, slice_index, refl, arith}
 use Rattle.std.proofs.lemmas.Grind.{common_steps}
 use Rattle.rw_classes.proofs.Numbering.{numbered_root, numbered_child}
-use Rattle.rw_limits.proofs.classes.number_trees.Goals as goal
-use Rattle.rw_limits.proofs.classes.number_trees.Goals.{then-parent-x+in_ok-push+in_ok-push-2, else-parent-x+in_ok-push-3}
+use Rattle.rw_classes.proofs.classes.number_trees.Goals as goal
+use Rattle.rw_classes.proofs.classes.number_trees.Goals.{then-parent-x+in_ok-push+in_ok-push-2, else-parent-x+in_ok-push-3}
 
 pub loop-x-preserved : goal.loop-x-preserved
 loop-x-preserved c =

@@ -2,7 +2,7 @@ use Rattle.std.proofs.Common.{ℕ, List, get_or, set, refl, ◌∙◌, arith}
 use Rattle.std.proofs.lemmas.List.{length-set}
 use Rattle.rw_classes.specs.Links.{IsShortened}
 use Rattle.rw_classes.proofs.Links.{halved, beyond_shared, shortened_more}
-use Rattle.rw_limits.proofs.classes.root.Goals as goal
+use Rattle.rw_classes.proofs.classes.root.Goals as goal
 
 -- one step up shortens the way and stays in the tree
 pub loop-parents-preserved : goal.loop-parents-preserved

@@ -1,7 +1,7 @@
 use Rattle.std.proofs.Common.{ℕ, List, [], ◌∷◌, set, arith}
 use Rattle.rw_classes.specs.Links.{AreUnited, IsRootOf, IsShortened}
 use Rattle.rw_classes.proofs.Links.{linked, root_kept, shortened_joins_none, shortened_more, turned, united_more}
-use Rattle.rw_limits.proofs.classes.unite.Goals as goal
+use Rattle.rw_classes.proofs.classes.unite.Goals as goal
 
 pub returns-then-x_root-y_root : goal.returns-then-x_root-y_root
 returns-then-x_root-y_root c =

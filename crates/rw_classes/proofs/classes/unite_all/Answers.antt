@@ -1,7 +1,7 @@
 use Rattle.std.proofs.Common.{ℕ, List, [], ◌∷◌, take, get_or}
 use Rattle.std.proofs.lemmas.List.{take_more}
 use Rattle.rw_classes.proofs.Links.{united_more}
-use Rattle.rw_limits.proofs.classes.unite_all.Goals as goal
+use Rattle.rw_classes.proofs.classes.unite_all.Goals as goal
 
 pub loop-pair-preserved : goal.loop-pair-preserved
 loop-pair-preserved c =

@@ -1,7 +1,7 @@
 -- The pairs passed are joined.
 use Rattle.std.proofs.Common.{take}
 use Rattle.rw_classes.specs.Links.{AreUnited}
-use Rattle.rw_limits.proofs.classes.unite_all.Given as goal
+use Rattle.rw_classes.proofs.classes.unite_all.Given as goal
 
 abbrev pub invariant-loop-pair : goal.invariant-loop-pair
 invariant-loop-pair l = AreUnited (take l.pair-index l.pairs) l.fn.parents l.parents

@@ -5,7 +5,7 @@ use Rattle.std.proofs.lemmas.List.{length_push}
 use Rattle.rw_classes.specs.Classes.{AreClasses}
 use Rattle.rw_classes.specs.ClassLists.{part_count, joined_by}
 use Rattle.rw_classes.proofs.ClassLists.{classes_more}
-use Rattle.rw_limits.proofs.joined.class_lists.Goals as goal
+use Rattle.rw_classes.proofs.joined.class_lists.Goals as goal
 
 pub loop-place-preserved : goal.loop-place-preserved
 loop-place-preserved c =

@@ -1,7 +1,7 @@
 -- There are classes for the objects so far.
 use Rattle.std.proofs.Common.{◌≡◌, length}
 use Rattle.rw_classes.specs.ClassLists.{number_lists, first_lists, AreClassesBy}
-use Rattle.rw_limits.proofs.joined.class_lists.Given as goal
+use Rattle.rw_classes.proofs.joined.class_lists.Given as goal
 
 abbrev pub invariant-loop-place : goal.invariant-loop-place
 invariant-loop-place l = record {

@@ -5,7 +5,7 @@ use Rattle.std.proofs.lemmas.List.{get_or_default}
 use Rattle.rw_schema.proofs.Lists.{map_in_more}
 use Rattle.rw_classes.specs.Places.{spot}
 use Rattle.rw_classes.specs.ClassLists.{joined}
-use Rattle.rw_limits.proofs.joined.joined_places.Goals as goal
+use Rattle.rw_classes.proofs.joined.joined_places.Goals as goal
 
 -- the places of one pair of images more
 joined_more : (left right images others : List ℕ) (k : ℕ) (places : List (ℕ × ℕ)) (pair : ℕ × ℕ) → k < length images

@@ -3,7 +3,7 @@ use Rattle.std.proofs.lemmas.Grind.{common_steps}
 use Rattle.rw_schema.specs.declared.atom.Atom.{Atom}
 use Rattle.rw_classes.specs.Merging.{AreMerged, IsLeastDifference, LeastDifference, cell_at}
 use Rattle.rw_classes.proofs.Merging.{clash_from_difference, no_clash_before, merged_from_firsts}
-use Rattle.rw_limits.proofs.merge.merge.Goals as goal
+use Rattle.rw_classes.proofs.merge.merge.Goals as goal
 
 pub returns-in-Some : goal.returns-in-Some
 returns-in-Some c =

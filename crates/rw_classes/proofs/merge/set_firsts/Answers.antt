@@ -2,8 +2,8 @@ use Rattle.std.proofs.Common.{◌≡◌, ◌&&◌, ◌++◌, ℕ, List, Option, 
 use Rattle.rw_schema.specs.declared.atom.Atom.{Atom}
 use Rattle.rw_classes.specs.Merging.{cell_at}
 use Rattle.rw_classes.proofs.Merging.{firsts_set, firsts_kept}
-use Rattle.rw_limits.proofs.merge.set_firsts.Goals as goal
-use Rattle.rw_limits.proofs.merge.set_firsts.Goals.{then-begins, else-begins}
+use Rattle.rw_classes.proofs.merge.set_firsts.Goals as goal
+use Rattle.rw_classes.proofs.merge.set_firsts.Goals.{then-begins, else-begins}
 
 pub loop-place-preserved : goal.loop-place-preserved
 loop-place-preserved c =
