@@ -1,8 +1,8 @@
 // What bytes are written to.
-ghost use Rattle.std.specs.Prelude.{ℕ, ◌<◌, List, Option, IfOk, length};
+ghost use Rattle.std.specs.Prelude.{◌≡◌, ℕ, ◌<◌, List, Option, IfOk, length};
 ghost use Rattle.std.specs.Io.{WritesAtMost};
 ghost use Rattle.std.specs.Io.KnownBytes.{WriteAppends};
-ghost use Rattle.rw_outside.specs.Faults.{HasCause};
+ghost use Rattle.rw_outside.specs.Faults.{count_after};
 
 use crate::failed::Failed;
 
@@ -21,5 +21,5 @@ pub trait Sink {
         ensures bound { WritesAtMost result piece.now }
         ensures progress { IfOk result (λ count. 0 < length piece.now → 0 < count) }
         ensures bytes { WriteAppends (held self.old) (held self.new) result piece.now }
-        ensures cause { HasCause (faults self.old) (faults self.new) result };
+        ensures faults { faults self.new ≡ count_after (faults self.old) result };
 }

@@ -1,8 +1,8 @@
 // What bytes are read from.
-ghost use Rattle.std.specs.Prelude.{ℕ, List, Option};
+ghost use Rattle.std.specs.Prelude.{◌≡◌, ℕ, List, Option};
 ghost use Rattle.std.specs.Io.{ReadsAtMost};
 ghost use Rattle.std.specs.Io.KnownBytes.{ReadConsumes};
-ghost use Rattle.rw_outside.specs.Faults.{HasCause};
+ghost use Rattle.rw_outside.specs.Faults.{count_after};
 
 use crate::failed::Failed;
 
@@ -20,5 +20,5 @@ pub trait Source {
     fn take(&mut self, room: &mut [u8]) -> Result<usize, Failed>
         ensures bound { ReadsAtMost result room.new }
         ensures bytes { ReadConsumes (left self.old) (left self.new) result room.new }
-        ensures cause { HasCause (faults self.old) (faults self.new) result };
+        ensures faults { faults self.new ≡ count_after (faults self.old) result };
 }
