@@ -48,7 +48,7 @@ pub fn read_all<S: Source>(alloc: Global, source: &mut S, limit: usize) -> Resul
 {
     let mut bytes = Vec::new(alloc);
     let mut room = [0; CHUNK];
-    loop {
+    'chunks: loop {
         let count = source.take(&mut room)?;
         if count == 0 {
             return Ok(bytes);
