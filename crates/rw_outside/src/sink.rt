@@ -16,7 +16,7 @@ pub trait Sink {
     ghost faults: { Self → ℕ };
 
     /// Appends bytes from the front of `piece`, and gives their number: at least 1 for a piece that
-    /// is not empty. A failed call appends nothing.
+    /// is not empty. A failed call appends nothing, and is counted.
     fn put(&mut self, piece: &[u8]) -> Result<usize, Failed>
         ensures bound { WritesAtMost result piece.now }
         ensures progress { IfOk result (λ count. 0 < length piece.now → 0 < count) }

@@ -16,7 +16,8 @@ pub trait Source {
     ghost faults: { Self → ℕ };
 
     /// Takes bytes from the front of what is left into the front of `room`, and gives their number.
-    /// For a room that is not empty, 0 comes only at the end. A failed call takes nothing.
+    /// For a room that is not empty, 0 comes only at the end. A failed call takes nothing, and is
+    /// counted.
     fn take(&mut self, room: &mut [u8]) -> Result<usize, Failed>
         ensures bound { ReadsAtMost result room.new }
         ensures bytes { ReadConsumes (left self.old) (left self.new) result room.new }

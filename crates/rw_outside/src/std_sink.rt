@@ -11,7 +11,8 @@ use std::io::Write;
 
 /// A sink over a writer, which it flushes after each write. Each `Err` of a write or a flush is a
 /// fault, and so is a write of 0 bytes of a piece that is not empty. It tells no bytes, since a flush
-/// may fail after a write.
+/// may fail after a write. std says of a flush no more than that known bytes stay; so that it comes,
+/// after the write, and that its `Err` is a fault, is tested and not proved.
 #[derive(Drop)]
 pub struct StdSink<W: Write> {
     writer: W,
