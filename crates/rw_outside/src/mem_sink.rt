@@ -2,7 +2,7 @@
 ghost use Rattle.std.specs.Prelude.{◌≡◌, ◌<◌, ◌↔◌, [], IsErr, IfOk, length, min};
 ghost use Rattle.std.specs.Io.{WritesAtMost};
 ghost use Rattle.std.specs.Io.KnownBytes.{WriteAppends};
-ghost use Rattle.rw_outside.specs.Faults.{HasCause, next_count, count_after};
+ghost use Rattle.rw_outside.specs.Faults.{next_count, count_after};
 ghost use Rattle.rw_outside.specs.MemSink.{FailsNext, room_left};
 
 use crate::failed::Failed;
@@ -78,12 +78,11 @@ impl Sink for MemSink {
         ensures bound { WritesAtMost result piece.now }
         ensures progress { IfOk result (λ count. 0 < length piece.now → 0 < count) }
         ensures bytes { WriteAppends (Some self.old.held) (Some self.new.held) result piece.now }
-        ensures cause { HasCause self.old.faults self.new.faults result }
+        ensures faults { self.new.faults ≡ count_after self.old.faults result }
 
         ensures failed { IsErr result ↔ FailsNext self.old piece.now }
         ensures taken { IfOk result (λ count. count ≡ min (length piece.now) (room_left self.old)) }
         ensures calls { self.new.calls ≡ next_count self.old.calls }
-        ensures faults { self.new.faults ≡ count_after self.old.faults result }
         ensures room { self.new.room ≡ self.old.room }
         ensures failing { self.new.failing ≡ self.old.failing }
     {

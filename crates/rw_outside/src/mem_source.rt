@@ -2,7 +2,7 @@
 ghost use Rattle.std.specs.Prelude.{◌≡◌, ◌<◌, ◌↔◌, Contains, IsErr, IfOk, length};
 ghost use Rattle.std.specs.Io.{ReadsAtMost};
 ghost use Rattle.std.specs.Io.KnownBytes.{ReadConsumes};
-ghost use Rattle.rw_outside.specs.Faults.{HasCause, next_count, count_after};
+ghost use Rattle.rw_outside.specs.Faults.{next_count, count_after};
 ghost use Rattle.rw_outside.specs.MemSource.{given_count};
 
 use crate::failed::Failed;
@@ -71,12 +71,11 @@ impl Source for MemSource {
     fn take(&mut self, room: &mut [u8]) -> Result<usize, Failed>
         ensures bound { ReadsAtMost result room.new }
         ensures bytes { ReadConsumes (Some self.old.left) (Some self.new.left) result room.new }
-        ensures cause { HasCause self.old.faults self.new.faults result }
+        ensures faults { self.new.faults ≡ count_after self.old.faults result }
 
         ensures failed { IsErr result ↔ Contains self.old.failing self.old.calls }
         ensures given { IfOk result (λ count. count ≡ given_count self.old (length room.old)) }
         ensures calls { self.new.calls ≡ next_count self.old.calls }
-        ensures faults { self.new.faults ≡ count_after self.old.faults result }
         ensures most { self.new.most ≡ self.old.most }
         ensures failing { self.new.failing ≡ self.old.failing }
     {

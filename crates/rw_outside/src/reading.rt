@@ -1,8 +1,7 @@
 // A source is read to its end.
-ghost use Rattle.std.specs.Prelude.{◌≡◌, ◌≤◌, IfOk, IfErr, IsErrOf};
+ghost use Rattle.std.specs.Prelude.{◌≡◌, IfOk, IfErr};
 ghost use Rattle.rw_outside.specs.declared.reading.ReadEnd.TheVariants.{Fault, OutOfMemory};
-ghost use Rattle.rw_outside.specs.Faults.{Rose};
-ghost use Rattle.rw_outside.specs.Reading.{IsReadWhole, EndsEarly};
+ghost use Rattle.rw_outside.specs.Reading.{IsReadWhole, EndsEarly, count_after_reading};
 
 use crate::failed::Failed;
 use crate::source::Source;
@@ -45,12 +44,11 @@ pub fn read_all<S: Source>(alloc: Global, source: &mut S, limit: usize) -> Resul
     ensures whole { IfOk result (λ bytes. IsReadWhole limit (S.left source.old) (S.left source.new)
         bytes.items) }
     ensures early { IfErr result (EndsEarly limit (S.left source.old) (S.left source.new)) }
-    ensures later { S.faults source.old ≤ S.faults source.new }
-    ensures fault { IsErrOf result ReadEnd.Fault → Rose (S.faults source.old) (S.faults source.new) }
+    ensures faults { S.faults source.new ≡ count_after_reading (S.faults source.old) result }
 {
     let mut bytes = Vec::new(alloc);
     let mut room = [0; CHUNK];
-    loop {
+    'chunks: loop {
         let count = source.take(&mut room)?;
         if count == 0 {
             return Ok(bytes);

@@ -1,8 +1,8 @@
 // What bytes are read from.
-ghost use Rattle.std.specs.Prelude.{ℕ, List, Option};
+ghost use Rattle.std.specs.Prelude.{◌≡◌, ℕ, List, Option};
 ghost use Rattle.std.specs.Io.{ReadsAtMost};
 ghost use Rattle.std.specs.Io.KnownBytes.{ReadConsumes};
-ghost use Rattle.rw_outside.specs.Faults.{HasCause};
+ghost use Rattle.rw_outside.specs.Faults.{count_after};
 
 use crate::failed::Failed;
 
@@ -16,9 +16,10 @@ pub trait Source {
     ghost faults: { Self → ℕ };
 
     /// Takes bytes from the front of what is left into the front of `room`, and gives their number.
-    /// For a room that is not empty, 0 comes only at the end. A failed call takes nothing.
+    /// For a room that is not empty, 0 comes only at the end. A failed call takes nothing, and is
+    /// counted.
     fn take(&mut self, room: &mut [u8]) -> Result<usize, Failed>
         ensures bound { ReadsAtMost result room.new }
         ensures bytes { ReadConsumes (left self.old) (left self.new) result room.new }
-        ensures cause { HasCause (faults self.old) (faults self.new) result };
+        ensures faults { faults self.new ≡ count_after (faults self.old) result };
 }

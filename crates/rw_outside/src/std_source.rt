@@ -2,7 +2,7 @@
 ghost use Rattle.std.specs.Prelude.{◌≡◌};
 ghost use Rattle.std.specs.Io.{ReadsAtMost};
 ghost use Rattle.std.specs.Io.KnownBytes.{ReadConsumes};
-ghost use Rattle.rw_outside.specs.Faults.{HasCause, count_after};
+ghost use Rattle.rw_outside.specs.Faults.{count_after};
 
 use crate::failed::Failed;
 use crate::source::Source;
@@ -35,9 +35,6 @@ impl<R: Read> Source for StdSource<R> {
         ensures bound { ReadsAtMost result room.new }
         ensures bytes { let source = ⟦<StdSource<R> as Source>⟧ in
             ReadConsumes (source.left self.old) (source.left self.new) result room.new }
-        ensures cause { let source = ⟦<StdSource<R> as Source>⟧ in
-            HasCause (source.faults self.old) (source.faults self.new) result }
-
         ensures faults { let source = ⟦<StdSource<R> as Source>⟧ in
             source.faults self.new ≡ count_after (source.faults self.old) result }
     {

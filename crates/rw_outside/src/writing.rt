@@ -1,7 +1,7 @@
 // A text is written to a sink.
 ghost use Rattle.std.specs.Prelude.{◌≡◌};
 ghost use Rattle.rw_outside.specs.declared.writing.WriteEnd.TheVariants.{Fault};
-ghost use Rattle.rw_outside.specs.Faults.{HasCause};
+ghost use Rattle.rw_outside.specs.Faults.{count_after};
 ghost use Rattle.rw_outside.specs.Writing.{WritesAll};
 
 use crate::failed::Failed;
@@ -27,7 +27,7 @@ impl From<Failed> for WriteEnd {
 /// first failed call.
 pub fn write_all<K: Sink>(sink: &mut K, text: &[u8]) -> Result<(), WriteEnd>
     ensures bytes { WritesAll text.now (K.held sink.old) (K.held sink.new) result }
-    ensures cause { HasCause (K.faults sink.old) (K.faults sink.new) result }
+    ensures faults { K.faults sink.new ≡ count_after (K.faults sink.old) result }
 {
     let mut rest = text;
     while !rest.is_empty() {

@@ -1,4 +1,4 @@
-use Rattle.std.proofs.Common.{arith}
+use Rattle.std.proofs.Common.{arith, ◌∙◌}
 use Rattle.std.proofs.lemmas.Result.{err_from_is_err_and}
 use Rattle.rw_outside.proofs.Written.{written_more, written_part}
 use Rattle.rw_outside.proofs.writing.write_all.Goals as goal
@@ -11,5 +11,5 @@ returns-in_err-count-clause-bytes g c =
 pub loop-rest-preserved : goal.loop-rest-preserved
 loop-rest-preserved g c = record {
   written = rw c.split_at.ensures.back (written_more _ _ _ _ _ c.in_ok-count.count c.loop-rest.invariant.written c.in_ok-count.ensures.bytes);
-  later = omega (arith, c.in_ok-count.ensures.cause.later);
+  faults = c.in_ok-count.ensures.faults ∙ c.loop-rest.invariant.faults;
 }
