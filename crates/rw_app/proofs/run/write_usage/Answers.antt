@@ -1,4 +1,4 @@
-use Rattle.std.proofs.Common.{refl, ℕ, List, subst}
+use Rattle.std.proofs.Common.{refl, ℕ, List, subst, arith}
 use Rattle.std.specs.Io.KnownBytes.{Appends}
 use Rattle.rw_app.specs.Endings.{AppendsPart}
 use Rattle.rw_app.proofs.Complete.{part_written}
@@ -13,5 +13,5 @@ returns-clause-ends g c =
       | in-Ok w ↦ rw w.result-is ((refl, refl), subst (λ (text : List ℕ). Appends held now text) c.as_bytes.ensures.value w.in-Ok.ensures.bytes)
       | in-Err-Fault w ↦
           let part : AppendsPart held now c.as_bytes.result.now = part_written _ held now _ w.in-Err-Fault.ensures.bytes in
-          rw w.result-is ((refl, refl), w.in-Err-Fault.ensures.cause.failed, subst (λ (text : List ℕ). AppendsPart held now text) c.as_bytes.ensures.value part)
+          rw w.result-is ((refl, refl), omega (arith, w.in-Err-Fault.ensures.faults), subst (λ (text : List ℕ). AppendsPart held now text) c.as_bytes.ensures.value part)
     ]
