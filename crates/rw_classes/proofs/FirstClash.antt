@@ -7,7 +7,7 @@ use Rattle.rw_schema.specs.declared.signature.AttrEnds.{AttrEnds}
 use Rattle.rw_schema.specs.RowLists.{RowLists}
 use Rattle.rw_classes.specs.Clashes.{MergesAt, MergesEach, clash_at, comes_earlier, lesser, IsFirstOf, FirstOf}
 use Rattle.rw_classes.specs.FirstClash.{IsEarlierPlace}
-use Rattle.rw_classes.specs.declared.clash.ClashAt.{ClashAt}
+use Rattle.rw_classes.specs.declared.clashes.ClashAt.{ClashAt}
 use Rattle.rw_classes.specs.declared.merge.Difference.{Difference}
 use Rattle.rw_classes.specs.declared.merge.Merged.{Merged}
 use Rattle.rw_classes.specs.declared.merge.Merged.TheVariants.{Firsts, Differ}

@@ -3,13 +3,13 @@
 //! Pushouts are made of such classes, and so is what a rule leaves behind.
 #![tactic(auto)]
 
-mod clash;
+mod clashes;
 mod classes;
 mod joined;
 mod merge;
 mod spots;
 
-pub use clash::{ClashAt, first_clash, merge_each};
+pub use clashes::{ClashAt, first_clash, merge_each};
 pub use classes::{Classes, join};
 pub use joined::{class_lists, firsts_at, numbers_at};
 pub use merge::{Difference, Merged, merge};

@@ -19,7 +19,7 @@ use Rattle.rw_classes.specs.Merging.{AreMerged, IsClash, cell_at}
 use Rattle.rw_classes.specs.FirstClash.{AreClassesOf, IsEarlierPlace, IsClashAt, IsFirstClash}
 use Rattle.rw_classes.specs.Places.{count_at, cell_of, either}
 use Rattle.rw_limits.specs.Spans.{span_frame, IsSpan, AreClassCells}
-use Rattle.rw_classes.specs.declared.clash.ClashAt.{ClashAt}
+use Rattle.rw_classes.specs.declared.clashes.ClashAt.{ClashAt}
 use Rattle.rw_classes.specs.declared.merge.Difference.{Difference}
 use Rattle.rw_classes.specs.declared.merge.Merged.{Merged}
 use Rattle.rw_classes.specs.declared.merge.Merged.TheVariants.{Firsts, Differ}

@@ -20,7 +20,7 @@ use Rattle.rw_classes.specs.FirstClash.{AreClassesOf}
 use Rattle.rw_classes.specs.Places.{count_at}
 use Rattle.rw_limits.specs.Spans.{span_frame, IsSpan, left_classes, right_classes, AreClassLists}
 use Rattle.rw_classes.specs.ClassLists.{AreClassesBy, number_lists, first_lists}
-use Rattle.rw_classes.specs.declared.clash.ClashAt.{ClashAt}
+use Rattle.rw_classes.specs.declared.clashes.ClashAt.{ClashAt}
 use Rattle.rw_classes.specs.declared.classes.Classes.{Classes}
 use Rattle.rw_limits.specs.declared.colimit.GlueFault.{GlueFault}
 use Rattle.rw_limits.specs.declared.colimit.GlueFault.TheVariants.{Clash, OutOfMemory}

@@ -11,7 +11,7 @@ use Rattle.rw_classes.specs.Merging.{Merges, cell_at}
 use Rattle.rw_classes.specs.FirstClash.{IsEarlierPlace}
 use Rattle.rw_limits.specs.Spans.{class_names, class_row_at, HasClassValues}
 use Rattle.rw_classes.specs.ClassLists.{number_lists, first_lists}
-use Rattle.rw_classes.specs.declared.clash.ClashAt.{ClashAt}
+use Rattle.rw_classes.specs.declared.clashes.ClashAt.{ClashAt}
 use Rattle.rw_classes.specs.declared.classes.Classes.{Classes}
 use Rattle.rw_limits.specs.declared.colimit.GlueFault.{GlueFault}
 use Rattle.rw_limits.specs.declared.colimit.GlueFault.TheVariants.{Clash, OutOfMemory}

@@ -3,7 +3,7 @@ use Rattle.std.proofs.Common.{◌≡◌, length, map}
 use Rattle.rw_schema.specs.Presentation.{ends_of_attribute}
 use Rattle.rw_classes.specs.Clashes.{MergesEach}
 use Rattle.rw_classes.specs.ClassLists.{number_lists, first_lists}
-use Rattle.rw_classes.proofs.clash.merge_each.Given as goal
+use Rattle.rw_classes.proofs.clashes.merge_each.Given as goal
 
 abbrev pub invariant-loop-place : goal.invariant-loop-place
 invariant-loop-place l = record {

@@ -3,7 +3,7 @@ use Rattle.std.proofs.Common.{◌≡◌, ◌∙◌, ◌<◌, length, map, option
 use Rattle.std.proofs.lemmas.Option.{slice_get-map, slice_get_read}
 use Rattle.rw_schema.specs.Presentation.{ends_of_attribute}
 use Rattle.rw_classes.proofs.FirstClash.{first_more}
-use Rattle.rw_classes.proofs.clash.first_clash.Goals as goal
+use Rattle.rw_classes.proofs.clashes.first_clash.Goals as goal
 
 pub loop-place-preserved : goal.loop-place-preserved
 loop-place-preserved c =

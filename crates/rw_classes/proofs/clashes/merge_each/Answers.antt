@@ -7,7 +7,7 @@ use Rattle.rw_schema.specs.Presentation.{ends_of_attribute}
 use Rattle.rw_classes.specs.Clashes.{MergesAt}
 use Rattle.rw_classes.specs.ClassLists.{number_lists, first_lists}
 use Rattle.rw_classes.proofs.FirstClash.{merges_more}
-use Rattle.rw_classes.proofs.clash.merge_each.Goals as goal
+use Rattle.rw_classes.proofs.clashes.merge_each.Goals as goal
 
 pub merge_at-requires : goal.merge_at-requires
 merge_at-requires c =
