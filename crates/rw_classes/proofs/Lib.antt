@@ -1,4 +1,4 @@
-pub mod Clashes
+pub mod ClashCells
 pub mod ClassLists
 pub mod FirstClash
 pub mod Glue

@@ -12,5 +12,5 @@ mod spots;
 pub use clashes::{ClashAt, first_clash, merge_each};
 pub use classes::{Classes, join};
 pub use joined::{class_lists, firsts_at, numbers_at};
-pub use merge::{Difference, Merged, merge};
+pub use merge::{Difference, Merged};
 pub use spots::spot_of;

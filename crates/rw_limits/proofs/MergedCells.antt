@@ -23,7 +23,7 @@ use Rattle.rw_classes.specs.declared.clashes.ClashAt.{ClashAt}
 use Rattle.rw_classes.specs.declared.merge.Difference.{Difference}
 use Rattle.rw_classes.specs.declared.merge.Merged.{Merged}
 use Rattle.rw_classes.specs.declared.merge.Merged.TheVariants.{Firsts, Differ}
-use Rattle.rw_classes.proofs.Clashes.{cells_beside_names, clash_of_same, no_clash_merged, atom_of_first}
+use Rattle.rw_classes.proofs.ClashCells.{cells_beside_names, clash_of_same, no_clash_merged, atom_of_first}
 use Rattle.rw_classes.proofs.Merging.{first_or_none}
 
 -- the cells of the classes are those of their first parts that have atoms
