@@ -14,6 +14,5 @@ pub mod MergedCells
 pub mod PairPlaces
 pub mod PullbackLists
 pub mod Pushes
-pub mod Sound
 pub mod Spans
 pub mod TooLarge

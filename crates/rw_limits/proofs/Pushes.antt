@@ -32,7 +32,7 @@ use Rattle.rw_limits.proofs.ClassShape.{shape_of_classes, names_of_classes}
 use Rattle.rw_classes.proofs.Glue.{gluing_from_classes}
 use Rattle.rw_limits.proofs.MergedCells.{cells_of_classes, first_clash_is}
 use Rattle.rw_classes.proofs.NoCocone.{no_cocone}
-use Rattle.rw_limits.proofs.Sound.{sound_from_instance}
+use Rattle.rw_table.proofs.Sound.{sound_from_instance}
 use Rattle.rw_limits.proofs.Spans.{classes_of_frame, entry_of_map_in, has_class_values}
 
 -- a span, the classes of what it joins, and cells that merge without a clash

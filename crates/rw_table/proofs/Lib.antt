@@ -4,4 +4,6 @@ mod Examples
 pub mod Listed
 pub mod Numbered
 pub mod Places
+pub mod Sound
 pub mod TableInstance
+pub mod Unfaulted

@@ -54,11 +54,11 @@ same_rows left right names arrows cells next =
     ap with_names names ∙ ap with_arrows arrows ∙ ap with_cells cells ∙ ap with_next next
 
 -- the names of each object are distinct
-names_distinct : (rows : RowLists) (object : ℕ) → names_fault rows ≡ None → AreDistinct (list_at rows.names object)
+pub names_distinct : (rows : RowLists) (object : ℕ) → names_fault rows ≡ None → AreDistinct (list_at rows.names object)
 names_distinct rows object named = ascends_distinct (list_at rows.names object) (names_ascend rows object named)
 
 -- the names of each object ascend below its next name
-names_below : (C : Signature) (rows : RowLists) (object : ℕ) → has_shape C rows ≡ true → names_fault rows ≡ None → object < C.objects
+pub names_below : (C : Signature) (rows : RowLists) (object : ℕ) → has_shape C rows ≡ true → names_fault rows ≡ None → object < C.objects
     → are_names (slice_index rows.next object) (list_at rows.names object) ≡ true
 names_below C rows object shaped named known =
     let fault = λ (each : ℕ) (names : List ℕ). fault_unless (are_names (slice_index rows.next each) names) (Names (record { 0 = each })) in
@@ -68,7 +68,7 @@ names_below C rows object shaped named known =
     passed_unless (are_names (slice_index rows.next object) names) (Names (record { 0 = object })) passed
 
 -- lists of the right shape with distinct names are the lists of the instance that they stand for
-lists_listed : (C : Signature) (rows : RowLists) → has_shape C rows ≡ true → names_fault rows ≡ None
+pub lists_listed : (C : Signature) (rows : RowLists) → has_shape C rows ≡ true → names_fault rows ≡ None
     → rows ≡ listed C (instance_of C rows) (slice_index rows.next)
 lists_listed C rows shaped named =
     let X = instance_of C rows in
