@@ -43,8 +43,7 @@ fn ends(alloc: Global, name: &str) -> anyhow::Result<ArrowDef>
     })
 }
 
-/// The graph with so many vertices, and an edge for each pair, from the first to the second. An end of an edge that is no
-/// vertex is refused.
+/// The graph with so many vertices, and an edge for each pair, from the first to the second.
 pub fn graph(
     alloc: Global,
     schema: &Schema,

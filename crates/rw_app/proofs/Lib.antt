@@ -6,6 +6,7 @@ pub mod KeptLists
 pub mod LargeObjects
 pub mod Leading
 pub mod Lengths
+pub mod Listable
 pub mod Obstructed
 pub mod OneRun
 pub mod Picking

@@ -5,16 +5,15 @@ use Rattle.rw_schema.specs.Presentation.{signature_of}
 use Rattle.rw_schema.specs.RowLists.{RowLists}
 use Rattle.rw_spec.specs.Instance.{instance_of}
 use Rattle.rw_spec.specs.Tabled.{IsOver}
-use Rattle.rw_rule.specs.RuleFaults.{IsGoalOver}
 use Rattle.rw_rule.specs.RuleLists.{RuleLists, WatchLists}
-use Rattle.rw_lists.specs.Fresh.{fresh_list}
+use Rattle.rw_lists.specs.Fresh.{IsListable, fresh_list}
 use Rattle.rw_docrule.specs.Models.{DocumentLists}
 
--- the instance and all goals are over the schema, and there are few of them
+-- the instance is over the schema, all goals can be listed, and there are few of them
 pub record HasGoals (document : DocumentLists) : Type 0 where
   pub table : IsOver document.schema document.table
-  pub rules : All (λ (rule : RuleLists). IsGoalOver (signature_of document.schema) rule.goal) document.rules
-  pub watches : All (λ (watch : WatchLists). IsGoalOver (signature_of document.schema) watch.goal) document.watches
+  pub rules : All (λ (rule : RuleLists). IsListable (signature_of document.schema) rule.goal) document.rules
+  pub watches : All (λ (watch : WatchLists). IsListable (signature_of document.schema) watch.goal) document.watches
   pub few_rules : length document.rules ≤ 256
   pub few_watches : length document.watches ≤ 64
 

@@ -5,9 +5,9 @@ ghost use Rattle.rw_schema.specs.Presentation.{signature_of};
 ghost use Rattle.std.specs.Option.{option_map};
 ghost use Rattle.std.specs.Str.{bytes_eq};
 ghost use Rattle.rw_spec.specs.Tabled.{IsOver};
-ghost use Rattle.rw_rule.specs.RuleFaults.{IsGoalOver};
 ghost use Rattle.rw_rule.specs.RuleParts.{goal_of_parts};
 ghost use Rattle.rw_terms.specs.OpEntries.{entries};
+ghost use Rattle.rw_lists.specs.Fresh.{IsListable};
 ghost use Rattle.rw_docrule.specs.Models.{document_lists, IsSound};
 ghost use Rattle.rw_app.specs.AnswerText.{refusal as refusal_of};
 ghost use Rattle.rw_app.specs.Answers.{IsAnswer, IsAnswerTo, checked, listed};
@@ -100,7 +100,7 @@ fn list_matches(alloc: Global, name: &str, document: &Document) -> Result<Answer
 /// The matches of a goal.
 fn list_goal(alloc: Global, document: &Document, named: Named<'_>) -> Result<Answer, OutOfMemory>
     requires table { IsOver document.now.schema document.now.table }
-    requires goal { IsGoalOver (signature_of document.now.schema) (goal_of_parts named.goal.now) }
+    requires goal { IsListable (signature_of document.now.schema) (goal_of_parts named.goal.now) }
     ensures { IfOk result (λ answer. text_of_answer answer ≡ listed (document_lists document.now) (Some (record { name = named.entry.name.now; goal = goal_of_parts named.entry.goal.now }))) }
 {
     let tuples = fresh_list(alloc, &document.schema, named.goal, &document.table)?;

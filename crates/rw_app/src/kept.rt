@@ -4,10 +4,9 @@ ghost use Rattle.std.specs.Prelude.{◌≡◌, ◌++◌, IfOk, OnOk, map};
 ghost use Rattle.std.specs.List.{All};
 ghost use Rattle.rw_schema.specs.Presentation.{signature_of};
 ghost use Rattle.rw_spec.specs.Tabled.{IsOver, instance_of_table};
-ghost use Rattle.rw_rule.specs.RuleFaults.{IsGoalOver};
 ghost use Rattle.rw_rule.specs.RuleLists.{RuleLists};
 ghost use Rattle.rw_rule.specs.RuleParts.{goal_of_parts};
-ghost use Rattle.rw_lists.specs.Fresh.{fresh_list as fresh_list_of};
+ghost use Rattle.rw_lists.specs.Fresh.{IsListable, fresh_list as fresh_list_of};
 ghost use Rattle.rw_docrule.specs.Models.{document_lists};
 ghost use Rattle.rw_app.specs.Kept.{HasGoals, lists_in};
 
@@ -55,7 +54,7 @@ fn push_rules(
     table: &Table,
     lists: &mut Vec<Vec<Tuple>>,
 ) -> Result<(), OutOfMemory>
-    requires rules { All (λ (rule : RuleLists). IsGoalOver (signature_of schema.now) rule.goal) rules.now }
+    requires rules { All (λ (rule : RuleLists). IsListable (signature_of schema.now) rule.goal) rules.now }
     requires table { IsOver schema.now table.now }
     ensures { OnOk result (map (λ list. list.items) lists.new.items ≡ map (λ list. list.items) lists.old.items
         ++ map (λ (rule : RuleLists). fresh_list_of (signature_of schema.now) (instance_of_table table.now) rule.goal) rules.now) }
@@ -74,7 +73,7 @@ fn push_watches(
     table: &Table,
     lists: &mut Vec<Vec<Tuple>>,
 ) -> Result<(), OutOfMemory>
-    requires watches { All (λ watch. IsGoalOver (signature_of schema.now) (goal_of_parts watch.goal)) watches.now }
+    requires watches { All (λ watch. IsListable (signature_of schema.now) (goal_of_parts watch.goal)) watches.now }
     requires table { IsOver schema.now table.now }
     ensures { OnOk result (map (λ list. list.items) lists.new.items ≡ map (λ list. list.items) lists.old.items
         ++ map (λ watch. fresh_list_of (signature_of schema.now) (instance_of_table table.now) (goal_of_parts watch.goal)) watches.now) }

@@ -4,8 +4,8 @@ ghost use Rattle.std.specs.Prelude.{◌≡◌, IfSome, find};
 ghost use Rattle.std.specs.Option.{option_map};
 ghost use Rattle.std.specs.Str.{bytes_eq};
 ghost use Rattle.rw_schema.specs.Presentation.{signature_of};
-ghost use Rattle.rw_rule.specs.RuleFaults.{IsGoalOver};
 ghost use Rattle.rw_rule.specs.RuleParts.{goal_of_parts};
+ghost use Rattle.rw_lists.specs.Fresh.{IsListable};
 ghost use Rattle.rw_docrule.specs.Models.{document_lists};
 ghost use Rattle.rw_app.specs.Kept.{HasGoals, named_goals};
 
@@ -25,7 +25,7 @@ pub(crate) fn goal_named<'a>(document: &'a Document, name: &str) -> Option<Named
     requires { HasGoals (document_lists document.now) }
     ensures found { option_map (λ named. record { name = named.name.now; goal = goal_of_parts named.goal.now }) result
         ≡ find (λ named. bytes_eq name.now named.name) (named_goals (document_lists document.now)) }
-    ensures over { IfSome result (λ named. IsGoalOver (signature_of document.now.schema) (goal_of_parts named.goal.now)) }
+    ensures over { IfSome result (λ named. IsListable (signature_of document.now.schema) (goal_of_parts named.goal.now)) }
 {
     if let Some(rule) = rule_named(document.rules.as_slice(), name) {
         return Some(Named {

@@ -6,7 +6,7 @@ use Rattle.std.proofs.lemmas.Option.{slice_get-get_or, slice_get_within, get_or_
 use Rattle.rw_schema.specs.declared.atom.Atom.{Atom}
 use Rattle.rw_schema.specs.declared.signature.ArrowEnds.{ArrowEnds}
 use Rattle.rw_schema.specs.declared.signature.AttrEnds.{AttrEnds}
-use Rattle.rw_schema.specs.First.{first_in, fault_unless, map_in, all_in}
+use Rattle.rw_schema.specs.First.{fault_unless, map_in, all_in}
 use Rattle.rw_schema.specs.RowLists.{RowLists, list_at}
 use Rattle.rw_schema.specs.Signature.{Signature, IsCategory}
 use Rattle.rw_schema.proofs.Firsts.{first_none, passed_unless, unless_true, none_from}

@@ -1,5 +1,5 @@
 -- Lists have no fault exactly where they are a table.
-use Rattle.std.proofs.Common.{◌≡◌, ℕ, ◌<◌, true, None, length, subst}
+use Rattle.std.proofs.Common.{◌≡◌, ℕ, ◌<◌, None, length, subst}
 use Rattle.rw_schema.specs.RowLists.{RowLists}
 use Rattle.rw_schema.specs.Signature.{Signature, IsCategory}
 use Rattle.rw_table.specs.TableFaults.{table_fault}

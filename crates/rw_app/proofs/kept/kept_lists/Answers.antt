@@ -2,7 +2,7 @@ use Rattle.std.proofs.Common.{List, subst, sym}
 use Rattle.std.specs.List.{All}
 use Rattle.rw_schema.specs.Presentation.{signature_of}
 use Rattle.rw_rule.specs.declared.watch.Watch.{Watch}
-use Rattle.rw_rule.specs.RuleFaults.{IsGoalOver}
+use Rattle.rw_lists.specs.Fresh.{IsListable}
 use Rattle.rw_rule.specs.RuleLists.{WatchLists}
 use Rattle.rw_rule.specs.RuleParts.{goal_of_parts}
 use Rattle.rw_app.proofs.KeptLists.{each_watch, lists_kept}
@@ -12,8 +12,8 @@ pub push_watches-requires-clause-watches : goal.push_watches-requires-clause-wat
 push_watches-requires-clause-watches c =
     let document = c.args.document.now in
     let C = signature_of document.schema in
-    subst (λ (watches : List Watch). All (λ watch. IsGoalOver C (goal_of_parts watch.goal)) watches) (sym c.as_slice-2.ensures.value)
-    (each_watch (λ (watch : WatchLists). IsGoalOver C watch.goal) document.watches.items c.requires.goals.watches)
+    subst (λ (watches : List Watch). All (λ watch. IsListable C (goal_of_parts watch.goal)) watches) (sym c.as_slice-2.ensures.value)
+    (each_watch (λ (watch : WatchLists). IsListable C watch.goal) document.watches.items c.requires.goals.watches)
 
 pub returns : goal.returns
 returns c =

@@ -2,7 +2,7 @@ use Rattle.std.proofs.Common.{◌≡◌, Some, None, find, refl, sym}
 use Rattle.std.specs.Str.{bytes_eq}
 use Rattle.rw_schema.specs.Presentation.{signature_of}
 use Rattle.rw_rule.specs.declared.watch.Watch.{Watch}
-use Rattle.rw_rule.specs.RuleFaults.{IsGoalOver}
+use Rattle.rw_lists.specs.Fresh.{IsListable}
 use Rattle.rw_rule.specs.RuleLists.{RuleLists, WatchLists}
 use Rattle.rw_rule.specs.RuleParts.{goal_of_parts}
 use Rattle.rw_app.proofs.Found.{found_holds, goal_found}
@@ -22,8 +22,8 @@ returns-in-Some-clause-over c =
     let name = c.args.name.now in
     let rule = c.in-Some.rule.now in
     let found : Some rule ≡ find (λ (other : RuleLists). bytes_eq name other.name) document.rules.items = rw c.as_slice.ensures.value at c.in-Some.ensures in
-    let over : IsGoalOver (signature_of document.schema) rule.goal =
-    found_holds (λ (other : RuleLists). IsGoalOver (signature_of document.schema) other.goal) (λ (other : RuleLists). bytes_eq name other.name) document.rules.items rule (sym found) c.requires.rules in
+    let over : IsListable (signature_of document.schema) rule.goal =
+    found_holds (λ (other : RuleLists). IsListable (signature_of document.schema) other.goal) (λ (other : RuleLists). bytes_eq name other.name) document.rules.items rule (sym found) c.requires.rules in
     rw c.goal.ensures over
 
 pub returns-in_err-watch-clause-found : goal.returns-in_err-watch-clause-found
@@ -49,5 +49,5 @@ returns-clause-over c =
     let C = signature_of document.schema in
     let watch = c.in_ok-watch.watch.now in
     let found : Some watch ≡ find (λ (other : Watch). bytes_eq name other.name) document.watches.items = rw c.as_slice-2.ensures.value at c.in_ok-watch.ensures in
-    found_holds (λ (other : Watch). IsGoalOver C (goal_of_parts other.goal)) (λ (other : Watch). bytes_eq name other.name) document.watches.items watch (sym found)
-    (each_watch (λ (other : WatchLists). IsGoalOver C other.goal) document.watches.items c.requires.watches)
+    found_holds (λ (other : Watch). IsListable C (goal_of_parts other.goal)) (λ (other : Watch). bytes_eq name other.name) document.watches.items watch (sym found)
+    (each_watch (λ (other : WatchLists). IsListable C other.goal) document.watches.items c.requires.watches)
