@@ -128,7 +128,7 @@ map_from_none C from to images is none =
     }
 
 -- the images of a map of patterns have the right shape
-shape_of_map : (C : Signature) (from to : PatternLists) (images : List (List ℕ)) → IsMapOf C from to images → has_map_shape from images ≡ true
+pub shape_of_map : (C : Signature) (from to : PatternLists) (images : List (List ℕ)) → IsMapOf C from to images → has_map_shape from images ≡ true
 shape_of_map C from to images is =
     and_from (nat_le (length from.sizes) (length images)) (all_in (has_images images) 0 from.sizes) (le-leb (length from.sizes) (length images) is.lists)
     (all_in_from_each (has_images images) 0 from.sizes (λ object size there.
@@ -137,7 +137,7 @@ shape_of_map C from to images is =
     rw (zero-add object) (eq-eqb (length (list_at images object)) size (is.each object within ∙ size_is))))
 
 -- no image of a map of patterns is out of range
-range_of_map : (C : Signature) (from to : PatternLists) (images : List (List ℕ)) → IsPattern C from → IsMapOf C from to images
+pub range_of_map : (C : Signature) (from to : PatternLists) (images : List (List ℕ)) → IsPattern C from → IsMapOf C from to images
     → first_in (image_fault to images) 0 from.sizes ≡ None
 range_of_map C from to images pattern is =
     none_from_each (image_fault to images) from.sizes (λ object size there.
@@ -152,7 +152,7 @@ range_of_map C from to images pattern is =
     unless_true (nat_lt image (size_of to object)) (Range (record { 0 = object }) part) (lt-ltb image (size_of to object) below)))
 
 -- a map of patterns commutes with each arrow
-squares_of_map : (C : Signature) (from to : PatternLists) (images : List (List ℕ)) → IsPattern C from → IsMapOf C from to images
+pub squares_of_map : (C : Signature) (from to : PatternLists) (images : List (List ℕ)) → IsPattern C from → IsMapOf C from to images
     → first_in (square_fault from to images) 0 C.arrows ≡ None
 squares_of_map C from to images pattern is =
     none_from_each (square_fault from to images) C.arrows (λ arrow ends there.

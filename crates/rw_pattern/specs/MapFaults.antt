@@ -1,11 +1,11 @@
 -- When lists of images are a map of patterns, and the first fault of those that are none.
-use Rattle.std.specs.Prelude.{◌≡◌, ◌==◌, ℕ, Bool, ◌&&◌, nat_le, nat_lt, length, slice_index, List, Option, Some, None, Result, Ok, Err}
+use Rattle.std.specs.Prelude.{◌≡◌, ◌≤◌, ◌<◌, ◌==◌, ℕ, Bool, ◌&&◌, nat_le, nat_lt, length, slice_index, List, Option, Some, None, Result, Ok, Err}
 use Rattle.rw_schema.specs.declared.signature.ArrowEnds.{ArrowEnds}
 use Rattle.rw_schema.specs.First.{or_else, first_in, fault_unless, all_in}
 use Rattle.rw_schema.specs.RowLists.{list_at}
 use Rattle.rw_schema.specs.Signature.{Signature}
-use Rattle.rw_spec.specs.Natural.{Map}
-use Rattle.rw_pattern.specs.PatternLists.{PatternLists, size_of}
+use Rattle.rw_spec.specs.Natural.{Map, IsNatural}
+use Rattle.rw_pattern.specs.PatternLists.{PatternLists, size_of, instance_of_pattern}
 use Rattle.rw_pattern.specs.declared.map_fault.MapFault.{MapFault}
 use Rattle.rw_pattern.specs.declared.map_fault.MapFault.TheVariants.{Shape, Range, NotNatural}
 

@@ -6,8 +6,8 @@ use Rattle.rw_pattern.specs.PatternFaults.{is_in_range}
 use Rattle.rw_pattern.proofs.Shapes.{test_fails, test_passes}
 use Rattle.rw_pattern.proofs.range.have_images.Goals as goal
 
-pub returns-then-not-are_below : goal.returns-then-not-are_below
-returns-then-not-are_below c =
+pub returns-then-not-are_below-clause-value : goal.returns-then-not-are_below-clause-value
+returns-then-not-are_below-clause-value c =
     let arrow : ArrowDef = c.arrow-item.result in
     let arrows : List ArrowDef = c.args.schema.now.arrows in
     let within : c.loop-number.number < length arrows = rw (← c.arrow_list-arrow-items.ensures.value) c.loop-number-test.true in
