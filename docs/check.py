@@ -1,6 +1,5 @@
-"""Looks whether the docs say what is there: docs/DEFINITIONS.md names exactly the definitions of the crates, the table of
-promises in README.md names functions of the crates, and each command that stands behind "$ " in a page prints what
-stands below it.
+"""Looks whether the docs say what is there: docs/DEFINITIONS.md is what docs/definitions.py writes, the table of promises in
+README.md names functions of the crates, and each command that stands behind "$ " in a page prints what stands below it.
 Usage: python3 docs/check.py [PROGRAM]"""
 
 import os
@@ -10,27 +9,10 @@ import subprocess
 import sys
 import tempfile
 
+import definitions
+
 TOP = pathlib.Path(__file__).resolve().parent.parent
 PAGES = ["README.md", "docs/FORMAT.md", "docs/LIBRARY.md", "docs/ARCHITECTURE.md", "docs/rewrite.1", "examples/README.md"]
-
-
-def defined():
-    """The definitions of the crates, as pairs of a file and a name."""
-    head = re.compile(r"^(?:abbrev|unfoldable)? ?pub (?:record |data )?([^\s:]+)", re.M)
-    for file in sorted(TOP.glob("crates/*/specs/*.antt")):
-        for name in head.findall(file.read_text()):
-            if name not in ("mod", "use"):
-                yield str(file.relative_to(TOP)), name
-
-
-def described():
-    """The definitions that docs/DEFINITIONS.md has, as the same pairs."""
-    file = ""
-    for line in (TOP / "docs/DEFINITIONS.md").read_text().splitlines():
-        if found := re.match(r"File `([^`]+)`", line):
-            file = found[1]
-        if found := re.match(r"\| `([^`]+)` \|", line):
-            yield file, found[1]
 
 
 def unkept():
@@ -66,15 +48,11 @@ def run(command, program):
 def main():
     program = pathlib.Path(sys.argv[1] if len(sys.argv) > 1 else TOP / "crates/rewrite/out/rewrite").resolve()
     failed = False
-    have, say = set(defined()), set(described())
-    for file, name in sorted(have - say):
-        print(f"docs/DEFINITIONS.md: {name} of {file} is missing")
-    for file, name in sorted(say - have):
-        print(f"docs/DEFINITIONS.md: {name} of {file} is no definition")
-    if have != say:
-        failed = True
+    if definitions.PAGE.read_text() == definitions.page():
+        print("docs/DEFINITIONS.md: as the definitions say")
     else:
-        print(f"docs/DEFINITIONS.md: as many definitions as the crates have, {len(have)}")
+        print("docs/DEFINITIONS.md: not what `python3 docs/definitions.py` writes")
+        failed = True
     for name, crate in unkept():
         print(f"README.md: {name} is no function of {crate}")
         failed = True
