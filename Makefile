@@ -2,9 +2,13 @@
 PREFIX ?= /usr/local
 PROGRAM = crates/rewrite/out/rewrite
 
-all: $(PROGRAM)
-	$(PROGRAM) matches edge < examples/path.json
-	$(PROGRAM) run < examples/infection.json
+# A first look, before any proof.
+try:
+	cd crates/rewrite && rt try -- matches edge < ../../examples/path.json
+	cd crates/rewrite && rt try -- run < ../../examples/infection.json
+	@echo 'Nothing was proved: `make build` proves the program and leaves it at $(PROGRAM), `make test` is the gate.'
+
+build: $(PROGRAM)
 
 # The gate leaves the program too, so after `make test` there is nothing to build.
 $(PROGRAM): $(wildcard crates/*/src/*.rt)
@@ -21,4 +25,4 @@ install: $(PROGRAM)
 	install -D $(PROGRAM) $(DESTDIR)$(PREFIX)/bin/rewrite
 	install -D -m 644 docs/rewrite.1 $(DESTDIR)$(PREFIX)/share/man/man1/rewrite.1
 
-.PHONY: all test pages install
+.PHONY: try build test pages install
