@@ -8,6 +8,3 @@ mod news;
 pub use compare::differences;
 pub use fresh::fresh_list;
 pub use news::{ListNews, ListsNews};
-
-#[cfg(test)]
-mod tests;

@@ -15,6 +15,3 @@ mod verdict;
 
 pub use step::try_match;
 pub use verdict::Verdict;
-
-#[cfg(test)]
-mod tests;

@@ -31,6 +31,3 @@ pub use rule::Rule;
 pub use set::SetCell;
 pub use sets::{MOST_LEVELS, fits_term, is_closed, is_set};
 pub use watch::Watch;
-
-#[cfg(test)]
-mod tests;

@@ -22,8 +22,6 @@ mod rows;
 mod schema;
 mod section;
 mod signature;
-#[cfg(test)]
-mod tests;
 mod text;
 mod topological;
 
