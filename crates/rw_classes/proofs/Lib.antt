@@ -6,5 +6,7 @@ pub mod Links
 pub mod Merging
 pub mod NoCocone
 pub mod Numbering
+pub mod OnlyClash
+pub mod OnlyClasses
 pub mod Searched
 pub mod Sides

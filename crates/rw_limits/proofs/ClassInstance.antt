@@ -16,6 +16,7 @@ use Rattle.rw_spec.specs.Distinct.{AreDistinct}
 use Rattle.rw_spec.specs.Homomorphism.{map_of}
 use Rattle.rw_spec.specs.Instance.{instance_of, look}
 use Rattle.rw_spec.proofs.Look.{look_at}
+use Rattle.rw_spec.proofs.Ranges.{range_distinct}
 use Rattle.rw_spec.proofs.Signatures.{source_is, holder_is}
 use Rattle.rw_table.proofs.Checked.{checked_known, names_apart, row_whole, images_named}
 use Rattle.rw_classes.specs.Glued.{AreGlued}
@@ -24,14 +25,6 @@ use Rattle.rw_classes.specs.Places.{spot, either, count_at, cell_of}
 use Rattle.rw_limits.specs.Spans.{span_frame, IsSpan, value_place, class_row_at, left_classes, right_classes, AreClassLists}
 use Rattle.rw_classes.proofs.Sides.{spot_within, spot_here, either_left, either_right, either_spot_left, either_spot_right}
 use Rattle.rw_limits.proofs.Spans.{entry_of_map_in}
-
--- the numbers from 0 are distinct
-range_distinct : (n : ℕ) → AreDistinct (range_with_len 0 n)
-range_distinct n i j i_within j_within same =
-    let long : length (range_with_len 0 n) ≡ n = length-range_with_len 0 n in
-    let i_is : get_or (range_with_len 0 n) i 0 ≡ 0 + i = get_or-range_with_len 0 n i 0 (omega arith) in
-    let j_is : get_or (range_with_len 0 n) j 0 ≡ 0 + j = get_or-range_with_len 0 n j 0 (omega arith) in
-    omega arith
 
 -- what is beside a name that is there stands at its place
 look_spot : {A : Type 0} (none : A) (names : List ℕ) (entries : List A) (x : ℕ) → AreDistinct names → Contains names x

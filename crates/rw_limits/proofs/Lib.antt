@@ -11,6 +11,8 @@ pub mod ImagesWithin
 pub mod Lexicographic
 pub mod ListsMade
 pub mod MergedCells
+pub mod OneLimit
+pub mod OnlyPushout
 pub mod PairPlaces
 pub mod PullbackLists
 pub mod Pushes

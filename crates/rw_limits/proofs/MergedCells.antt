@@ -176,8 +176,7 @@ module _ (C : Signature) (apex left right : RowLists) (f g : List (List ℕ)) (s
         let differs : found.0 ≡ Differ clash.difference = same_Some found.0 (Differ clash.difference) (sym found.1 ∙ first.differs) in
         let merges_here : MergesAt left right numbers firsts c ends (Differ clash.difference) = subst (λ each. MergesAt left right numbers firsts c ends each) differs found.2 in
         let there = merges_here.0 in
-        let parts_clash : IsClashAt F (list_at numbers ends.object.0) ends.object.0 c clash.difference.class there.0 there.1 =
-        (
+        let parts_clash : IsClashAt F (list_at numbers ends.object.0) ends.object.0 c clash.difference.class there.0 there.1 = (
           clash.difference.first,
           clash.difference.second,
           clash_of_same (cell_at (both_cells left right c)) (cell_of F ends.object.0 c) (list_at numbers ends.object.0) clash.difference.class clash.difference.first clash.difference.second

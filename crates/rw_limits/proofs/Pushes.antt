@@ -8,17 +8,18 @@ use Rattle.rw_schema.proofs.Lists.{list_at_map, length_map_in}
 use Rattle.rw_spec.specs.Cocone.{Frame, IsInitialCocone}
 use Rattle.rw_spec.specs.Homomorphism.{map_of}
 use Rattle.rw_spec.specs.Instance.{Instance, IsInstance, instance_of}
+use Rattle.rw_table.specs.TableFaults.{table_fault}
 use Rattle.rw_table.proofs.Checked.{checked_known, shape_known, names_apart}
 use Rattle.rw_table.proofs.TableInstance.{table_instance}
 use Rattle.rw_universal.proofs.Gluing.{pushout_from_gluing}
-use Rattle.rw_classes.specs.Classes.{AreNumbered}
+use Rattle.rw_classes.specs.Classes.{AreClasses}
 use Rattle.rw_limits.specs.ClassTables.{class_table, merged_cells, IsFaultOf, CanAssemble}
 use Rattle.rw_classes.specs.Clashes.{both_cells, MergesEach, IsFirstOf, FirstOf}
 use Rattle.rw_classes.specs.Merging.{cell_at}
 use Rattle.rw_limits.specs.Pushouts.{IsPushoutOf, PushesOut}
 use Rattle.rw_classes.specs.FirstClash.{AreClassesOf}
-use Rattle.rw_classes.specs.Places.{count_at}
-use Rattle.rw_limits.specs.Spans.{span_frame, IsSpan, left_classes, right_classes, AreClassLists}
+use Rattle.rw_classes.specs.Places.{count_at, joined_at, cell_of}
+use Rattle.rw_limits.specs.Spans.{span_frame, IsSpan, left_classes, right_classes, AreClassCells, AreClassLists}
 use Rattle.rw_classes.specs.ClassLists.{AreClassesBy, number_lists, first_lists}
 use Rattle.rw_classes.specs.declared.clashes.ClashAt.{ClashAt}
 use Rattle.rw_classes.specs.declared.classes.Classes.{Classes}
@@ -87,6 +88,15 @@ module _ (C : Signature) (apex left right : RowLists) (f g : List (List ℕ)) (s
         let count : length (list_at (number_lists classes) object) ≡ count_at (span_frame C apex left right f g) object = (framed object known).numbered.each in
         omega arith
 
+    -- they have no fault
+    sound : table_fault C (class_table C left right (number_lists classes) (first_lists classes) merged) ≡ None
+    sound =
+        let rows : RowLists = class_table C left right (number_lists classes) (first_lists classes) merged in
+        sound_from_instance C rows span.category
+        (shape_of_classes C span.category (span_frame C apex left right f g) left right (number_lists classes) (first_lists classes) firsts_long rows lists)
+        (names_of_classes C span.category (span_frame C apex left right f g) left right (number_lists classes) (first_lists classes) firsts_long rows lists)
+        initial.cocone.instance
+
     -- the lists of the classes can be made, and are an instance
     pub can_assemble : C.objects ≤ 64 → length C.attributes ≤ 256 → CanAssemble C left right classes merged
     can_assemble few_objects few_attributes =
@@ -95,7 +105,6 @@ module _ (C : Signature) (apex left right : RowLists) (f g : List (List ℕ)) (s
         let left_names : length left.names ≡ C.objects = left_shape.names in
         let left_cells : length left.cells ≡ length C.attributes = left_shape.cells in
         let right_cells : length right.cells ≡ length C.attributes = right_shape.cells in
-        let rows : RowLists = class_table C left right (number_lists classes) (first_lists classes) merged in
         record {
           objects = omega arith;
           left_names = omega arith;
@@ -109,10 +118,7 @@ module _ (C : Signature) (apex left right : RowLists) (f g : List (List ℕ)) (s
           attributes = omega arith;
           left_cells = omega arith;
           right_cells = omega arith;
-          sound = sound_from_instance C rows span.category
-              (shape_of_classes C span.category (span_frame C apex left right f g) left right (number_lists classes) (first_lists classes) firsts_long rows lists)
-              (names_of_classes C span.category (span_frame C apex left right f g) left right (number_lists classes) (first_lists classes) firsts_long rows lists)
-              initial.cocone.instance;
+          sound = sound;
         }
 
     -- what is made of them is the pushout
@@ -122,9 +128,11 @@ module _ (C : Signature) (apex left right : RowLists) (f g : List (List ℕ)) (s
         → IsPushoutOf C (span_frame C apex left right f g) result
     pushout_is result table_is left_is right_is = record {
       signature = ap (λ table. table.signature) table_is;
+      sound = rw table_is sound;
       left = ap length left_is ∙ length_map_in (λ object each. take (length (list_at left.names object)) each) 0 (number_lists classes) ∙ numbers_long;
       right = ap length right_is ∙ length_map_in (λ object each. drop (length (list_at left.names object)) each) 0 (number_lists classes) ∙ numbers_long;
-      numbered = λ object known.
+      glued = λ object known.
+          let F : Frame = span_frame C apex left right f g in
           let numbers : List ℕ = list_at (number_lists classes) object in
           let firsts : List ℕ = list_at (first_lists classes) object in
           let count : ℕ = length (list_at left.names object) in
@@ -137,10 +145,15 @@ module _ (C : Signature) (apex left right : RowLists) (f g : List (List ℕ)) (s
           let whole : numbers ≡ list_at result.left object ++ list_at result.right object = rw (left_here, right_here) (sym (take-append-drop count numbers)) in
           record {
             firsts = firsts;
-            numbered = subst (λ all. AreNumbered (count_at (span_frame C apex left right f g) object) all firsts) whole (framed object known).numbered;
             left = ap length left_here ∙ length-take-le count numbers (left_count object known);
+            classes = subst (λ all. AreClasses (count_at F object) (joined_at F object) all firsts) whole (framed object known);
             names = ap (λ table. list_at table.rows.names object) table_is ∙ list_at_map (λ each. range_with_len 0 (length each)) (first_lists classes) object [] in_firsts;
             next = ap (λ table. slice_index table.rows.next object) table_is ∙ get_or-map length (first_lists classes) object [] 0 in_firsts;
+            cells = λ c ends there holder.
+                subst (λ all. AreClassCells (count_at F object) all firsts (cell_of F object c) (list_at result.table.rows.cells c)) whole
+                (subst (λ table. AreClassCells (count_at F object) numbers firsts (cell_of F object c) (list_at table.rows.cells c)) (sym table_is)
+                (subst (λ (holder : ℕ). AreClassCells (count_at F holder) (list_at (number_lists classes) holder) (list_at (first_lists classes) holder) (cell_of F holder c) (list_at (class_table C left right (number_lists classes) (first_lists classes) merged).cells c))
+                holder (lists.cells c ends there)));
           };
       universal = rw (table_is, left_is, right_is) initial;
     }

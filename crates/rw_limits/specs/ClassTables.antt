@@ -7,6 +7,7 @@ use Rattle.rw_schema.specs.First.{map_in}
 use Rattle.rw_schema.specs.RowLists.{RowLists, list_at}
 use Rattle.rw_schema.specs.Signature.{Signature}
 use Rattle.rw_table.specs.TableFaults.{table_fault}
+use Rattle.rw_classes.specs.Clashes.{both_cells}
 use Rattle.rw_classes.specs.Merging.{Merges, cell_at}
 use Rattle.rw_classes.specs.FirstClash.{IsEarlierPlace}
 use Rattle.rw_limits.specs.Spans.{class_names, class_row_at, HasClassValues}

@@ -1,5 +1,6 @@
 pub mod ClassTables
 pub mod Fibers
+pub mod OneLimit
 pub mod PairLists
 pub mod Pairs
 pub mod Pullbacks

@@ -14,6 +14,7 @@ use Rattle.rw_table.specs.TableFaults.{table_fault}
 use Rattle.rw_spec.specs.Ascending.{ascends}
 use Rattle.rw_map.specs.Homs.{IsHom}
 use Rattle.rw_classes.specs.Classes.{AreClasses}
+use Rattle.rw_classes.specs.ClassLists.{part_count}
 use Rattle.rw_classes.specs.Places.{spot, either, count_at, cell_of}
 use Rattle.rw_classes.specs.declared.classes.Classes.{Classes}
 

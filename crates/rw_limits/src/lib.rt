@@ -7,6 +7,7 @@ mod class_rows;
 mod colimit;
 mod cospan;
 mod fibers;
+mod laws;
 mod limit;
 mod pair_cells;
 mod pair_lists;
@@ -14,4 +15,5 @@ mod pair_rows;
 mod pairs;
 
 pub use colimit::{GlueFault, PushoutResult, pushout};
+pub use laws::{has_one_pullback, has_one_pushout};
 pub use limit::{PullEnd, PullbackResult, pullback};
