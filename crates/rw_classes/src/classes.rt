@@ -5,7 +5,7 @@ ghost use Rattle.std.specs.List.{range_with_len};
 ghost use Rattle.rw_classes.specs.Classes.{AreClasses};
 ghost use Rattle.rw_classes.specs.Links.{AreRootClasses, AreUnited, Descends, IsRootOf, IsShortened};
 
-use rw_schema::OutOfMemory;
+use rw_schema::{OutOfMemory, numbers_below};
 use std::alloc::Global;
 
 /// Numbers below a bound divided into classes: of each number its class, and of each class its least number. The
@@ -25,20 +25,9 @@ pub fn join(alloc: Global, n: u32, pairs: &[(u32, u32)]) -> Result<Classes, OutO
     requires { All (λ pair. (pair.0 < n) × (pair.1 < n)) pairs.now }
     ensures { IfOk result (λ classes. AreClasses n pairs.now classes.numbers.items classes.firsts.items) }
 {
-    let mut parents = singletons(alloc, n)?;
+    let mut parents = numbers_below(alloc, n)?;
     unite_all(&mut parents, pairs);
     number_trees(alloc, &parents)
-}
-
-/// Each number as its own parent.
-fn singletons(alloc: Global, n: u32) -> Result<Vec<u32>, OutOfMemory>
-    ensures { IfOk result (λ parents. parents.items ≡ range_with_len 0 n) }
-{
-    let mut parents = Vec::new(alloc);
-    for x in 0..n {
-        parents.push(x)?;
-    }
-    Ok(parents)
 }
 
 /// Joins the trees of the two numbers of each pair.

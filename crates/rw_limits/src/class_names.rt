@@ -7,7 +7,7 @@ ghost use Rattle.rw_limits.specs.Spans.{class_names, left_classes, right_classes
 ghost use Rattle.rw_classes.specs.ClassLists.{number_lists, first_lists};
 
 use rw_classes::Classes;
-use rw_schema::{ObjectId, OutOfMemory, Rows};
+use rw_schema::{ObjectId, OutOfMemory, Rows, numbers_below};
 use std::alloc::Global;
 
 /// Of each object the names of its classes, which are their numbers.
@@ -20,17 +20,6 @@ pub fn name_lists(alloc: Global, classes: &[Classes]) -> Result<Vec<Vec<u32>>, O
         names.push(numbers_below(alloc, each.firsts.len() as u32)?)?;
     }
     Ok(names)
-}
-
-/// The numbers below the bound.
-fn numbers_below(alloc: Global, bound: u32) -> Result<Vec<u32>, OutOfMemory>
-    ensures { IfOk result (λ numbers. numbers.items ≡ range_with_len 0 bound) }
-{
-    let mut numbers = Vec::new(alloc);
-    for number in 0..bound {
-        numbers.push(number)?;
-    }
-    Ok(numbers)
 }
 
 /// Of each object the number of its classes.

@@ -91,17 +91,7 @@ fn common_cell(
     ensures { IfOk result (λ cell. cell ≡ common (option_map (λ atom. atom.now) left.entry) (option_map (λ atom. atom.now) right.entry)) }
 {
     match left {
-        Some(atom) if has_atom(right, atom) => Ok(Some(atom.copy(alloc)?)),
+        Some(atom) if atom.is_in(right) => Ok(Some(atom.copy(alloc)?)),
         _ => Ok(None),
-    }
-}
-
-/// Whether the cell has the atom.
-fn has_atom(cell: Option<&Atom>, atom: &Atom) -> bool
-    ensures { result ≡ are_same_atom (Some atom.now) (option_map (λ atom. atom.now) cell.entry) }
-{
-    match cell {
-        Some(other) => atom.is(other),
-        None => false,
     }
 }

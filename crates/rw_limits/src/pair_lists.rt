@@ -4,7 +4,7 @@ ghost use Rattle.std.specs.Prelude.{◌≡◌, ◌≤◌, All, IfOk, length, map
 ghost use Rattle.std.specs.List.{range_with_len};
 ghost use Rattle.rw_limits.specs.Pullbacks.{most_pairs};
 
-use rw_schema::OutOfMemory;
+use rw_schema::{OutOfMemory, numbers_below};
 use std::alloc::Global;
 
 /// The names of the pairs of each object: numbers from 0.
@@ -14,21 +14,9 @@ pub fn pair_names(alloc: Global, pairs: &[Vec<(u32, u32)>]) -> Result<Vec<Vec<u3
 {
     let mut names = Vec::new(alloc);
     for list in pairs {
-        names.push(numbers(alloc, list.len())?)?;
+        names.push(numbers_below(alloc, list.len() as u32)?)?;
     }
     Ok(names)
-}
-
-/// The numbers below the count, in order.
-fn numbers(alloc: Global, count: usize) -> Result<Vec<u32>, OutOfMemory>
-    requires { count ≤ most_pairs }
-    ensures { IfOk result (λ numbers. numbers.items ≡ range_with_len 0 count) }
-{
-    let mut numbers = Vec::new(alloc);
-    for number in 0..count {
-        numbers.push(number as u32)?;
-    }
-    Ok(numbers)
 }
 
 /// The number of pairs of each object.

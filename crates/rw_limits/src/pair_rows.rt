@@ -9,6 +9,7 @@ ghost use Rattle.rw_limits.specs.Pairs.{place_of};
 ghost use Rattle.rw_limits.specs.Pullbacks.{most_pairs};
 
 use crate::pairs::pairs_of;
+use rw_map::value_of;
 use rw_schema::{ArrowDef, ArrowId, OutOfMemory, Schema};
 use rw_table::Table;
 use std::alloc::Global;
@@ -83,14 +84,6 @@ fn pair_row(
         row.push(place_of_pair(to, image))?;
     }
     Ok(row)
-}
-
-/// Where the arrow leads from the name.
-fn value_of(table: &Table, arrow: ArrowId, name: u32) -> u32
-    requires { arrow.0 < length table.now.signature.arrows }
-    ensures { result ≡ (instance_of_table table.now).value arrow.0 name }
-{
-    table.value(arrow, name).unwrap_or(0)
 }
 
 /// The place of the pair among pairs in lexicographic order, or their number where it is none of them.

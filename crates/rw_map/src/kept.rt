@@ -83,17 +83,7 @@ fn goes_to(cell: &Option<Atom>, image: Option<&Atom>) -> bool
     ensures { result ≡ is_kept cell.now (option_map (λ atom. atom.now) image.entry) }
 {
     match cell {
-        Some(atom) => is_atom(atom, image),
+        Some(atom) => atom.is_in(image),
         None => true,
-    }
-}
-
-/// Whether there is an atom, and it is this one.
-fn is_atom(atom: &Atom, image: Option<&Atom>) -> bool
-    ensures { result ≡ is_kept (Some atom.now) (option_map (λ other. other.now) image.entry) }
-{
-    match image {
-        Some(other) => atom.is(other),
-        None => false,
     }
 }

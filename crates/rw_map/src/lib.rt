@@ -17,3 +17,4 @@ pub use composition::compose;
 pub use fault::HomFault;
 pub use hom::Hom;
 pub use images::{image_contains, is_injective};
+pub use look::value_of;

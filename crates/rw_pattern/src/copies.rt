@@ -6,17 +6,6 @@ use crate::PatternCell;
 use rw_schema::OutOfMemory;
 use std::alloc::Global;
 
-/// A copy of each row.
-pub fn copy_rows(alloc: Global, rows: &[Vec<u32>]) -> Result<Vec<Vec<u32>>, OutOfMemory>
-    ensures { IfOk result (λ copies. map (λ row. row.items) copies.items ≡ map (λ row. row.items) rows.now) }
-{
-    let mut copies = Vec::new(alloc);
-    for row in rows {
-        copies.push(row.as_slice().to_vec(alloc)?)?;
-    }
-    Ok(copies)
-}
-
 /// A copy of each entry.
 pub fn copy_entries(alloc: Global, entries: &[PatternCell]) -> Result<Vec<PatternCell>, OutOfMemory>
     ensures { IfOk result (λ copies. copies.items ≡ entries.now) }

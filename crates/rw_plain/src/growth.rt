@@ -7,9 +7,8 @@ ghost use Rattle.rw_rule.specs.Images.{is_image};
 ghost use Rattle.rw_plain.specs.PlainStep.{new_parts as new_parts_of, new_before as new_parts_before, next_after as next_after_step};
 ghost use Rattle.rw_plain.specs.RuleParts.{IsSpanOver, HasObject};
 
-use crate::matched::has;
 use rw_rule::{Refusal, Rule};
-use rw_schema::{ObjectId, OutOfMemory, Rows, Schema};
+use rw_schema::{ObjectId, OutOfMemory, Rows, Schema, has_number};
 use std::alloc::Global;
 
 /// The greatest next name.
@@ -53,7 +52,7 @@ fn is_new(rule: &Rule, object: ObjectId, part: u32) -> bool
     requires { HasObject rule.now object.0 }
     ensures { result ≡ not (is_image rule.now.r object.0 part) }
 {
-    !has(rule.r().images(object), part)
+    !has_number(rule.r().images(object), part)
 }
 
 /// The next name of an object after the step.

@@ -9,7 +9,7 @@ ghost use Rattle.rw_plain.specs.RuleParts.{HasObject};
 
 use rw_pattern::Tuple;
 use rw_rule::Rule;
-use rw_schema::ObjectId;
+use rw_schema::{ObjectId, has_number};
 
 /// Whether the match gives the name to a part of the left side.
 pub(crate) fn is_matched(rule: &Rule, tuple: &Tuple, object: ObjectId, name: u32) -> bool
@@ -17,7 +17,7 @@ pub(crate) fn is_matched(rule: &Rule, tuple: &Tuple, object: ObjectId, name: u32
     requires tuple { length tuple.now ≡ sum rule.now.goal.left.sizes }
     ensures { result ≡ is_matched_name rule.now tuple.now object.0 name }
 {
-    has(rule.goal().left.names_of(object, tuple.names()), name)
+    has_number(rule.goal().left.names_of(object, tuple.names()), name)
 }
 
 /// Whether the match gives the name to a part of the left side that is not kept.
@@ -59,12 +59,5 @@ fn is_kept(rule: &Rule, object: ObjectId, part: u32) -> bool
     requires { HasObject rule.now object.0 }
     ensures { result ≡ is_image rule.now.l object.0 part }
 {
-    has(rule.l().images(object), part)
-}
-
-/// Whether the number is in the list.
-pub(crate) fn has(numbers: &[u32], number: u32) -> bool
-    ensures { result ≡ list_any (λ other. other == number) numbers.now }
-{
-    numbers.iter().any(|other| *other == number)
+    has_number(rule.l().images(object), part)
 }

@@ -8,7 +8,7 @@ ghost use Rattle.rw_rule.specs.Sets.{is_given as is_given_in, part_without, valu
 
 use crate::sets::is_set;
 use crate::{RuleFault, RuleParts};
-use rw_schema::{AttrDef, AttrId, ObjectId, Schema};
+use rw_schema::{AttrDef, AttrId, ObjectId, Schema, has_number};
 
 /// The first attribute that is not set on a new part.
 pub fn first_value_missing(schema: &Schema, parts: &RuleParts) -> Option<RuleFault>
@@ -43,12 +43,5 @@ fn is_given(parts: &RuleParts, attr: AttrId, object: ObjectId, part: u32) -> boo
     requires { object.0 < length parts.now.r }
     ensures { result ≡ is_given_in (rule_of_parts parts.now) attr.0 object.0 part }
 {
-    has(parts.r.images(object), part) || is_set(parts.sets.as_slice(), attr, part)
-}
-
-/// Whether the number is in the list.
-fn has(images: &[u32], part: u32) -> bool
-    ensures { result ≡ list_any (λ image. image == part) images.now }
-{
-    images.iter().any(|image| *image == part)
+    has_number(parts.r.images(object), part) || is_set(parts.sets.as_slice(), attr, part)
 }

@@ -1,7 +1,8 @@
 //! The values of cells, and their kinds.
 
-ghost use Rattle.std.specs.Prelude.{◌≡◌, IfOk};
-ghost use Rattle.rw_schema.specs.Atoms.{kind_of, is_same_kind, is_of_kind, is_same_atom};
+ghost use Rattle.std.specs.Prelude.{◌≡◌, IfOk, Some};
+ghost use Rattle.std.specs.Option.{option_map};
+ghost use Rattle.rw_schema.specs.Atoms.{kind_of, is_same_kind, is_of_kind, is_same_atom, are_same_atom};
 
 use crate::{OutOfMemory, Text};
 use std::alloc::Global;
@@ -61,6 +62,16 @@ impl Atom {
             Atom::Int(number) => matches!(other, Atom::Int(same) if same == number),
             Atom::Text(text) => matches!(other, Atom::Text(same) if same.as_str() == text.as_str()),
             Atom::Bool(answer) => matches!(other, Atom::Bool(same) if same == answer),
+        }
+    }
+
+    /// Whether the cell holds this atom.
+    pub fn is_in(&self, cell: Option<&Atom>) -> bool
+        ensures { result ≡ are_same_atom (Some self.now) (option_map (λ atom. atom.now) cell.entry) }
+    {
+        match cell {
+            Some(other) => self.is(other),
+            None => false,
         }
     }
 

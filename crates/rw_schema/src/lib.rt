@@ -15,6 +15,7 @@ mod limits;
 mod memory;
 mod named;
 mod name_index;
+mod numbers;
 mod part_map;
 mod parts;
 mod path;
@@ -35,6 +36,7 @@ pub use limits::{
 pub use memory::OutOfMemory;
 pub use named::Named;
 pub use name_index::NameIndex;
+pub use numbers::{copy_lists, has_number, numbers_below};
 pub use part_map::PartMap;
 pub use parts::{ArrowDef, AttrDef, Equation, SchemaParts};
 pub use path::Path;

@@ -4,6 +4,7 @@ ghost use Rattle.std.specs.Prelude.{◌≡◌, ◌<◌, ◌↔◌, IfOk, IsTrue,
 ghost use Rattle.rw_schema.specs.RowLists.{RowLists, list_at};
 
 use crate::cells::{are_same_cell_lists, copy_cell_lists};
+use crate::numbers::copy_lists;
 use crate::{ArrowId, Atom, AttrId, ObjectId, OutOfMemory};
 use std::alloc::Global;
 use std::marker::Model;
@@ -141,17 +142,6 @@ impl Rows {
             && are_same_cell_lists(self.cells.as_slice(), other.cells.as_slice())
             && self.next == other.next
     }
-}
-
-/// A copy of each list.
-fn copy_lists(alloc: Global, lists: &[Vec<u32>]) -> Result<Vec<Vec<u32>>, OutOfMemory>
-    ensures { IfOk result (λ copies. map (λ list. list.items) copies.items ≡ map (λ list. list.items) lists.now) }
-{
-    let mut copies = Vec::new(alloc);
-    for list in lists {
-        copies.push(list.as_slice().to_vec(alloc)?)?;
-    }
-    Ok(copies)
 }
 
 /// Whether the lists of both are equal.

@@ -16,5 +16,5 @@ returns c =
     c.names_of.ensures
     ∙ ap (λ (goal : GoalLists). names_of_parts goal.left c.names.result.now object) c.goal.ensures
     ∙ ap (λ (tuple : List ℕ). names_of_parts left tuple object) c.names.ensures in
-    c.has.ensures ∙ ap (list_any (λ other. other == c.args.name)) names
+    c.has_number.ensures ∙ ap (list_any (λ other. other == c.args.name)) names
     ∙ named_part left tuple object c.args.name c.requires.object.left c.requires.tuple

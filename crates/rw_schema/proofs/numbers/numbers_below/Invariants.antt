@@ -1,7 +1,7 @@
 -- The numbers so far are those below the next one.
 use Rattle.std.proofs.Common.{◌≡◌}
 use Rattle.std.specs.List.{range_with_len}
-use Rattle.rw_limits.proofs.class_names.numbers_below.Given as goal
+use Rattle.rw_schema.proofs.numbers.numbers_below.Given as goal
 
 abbrev pub invariant-loop-number : goal.invariant-loop-number
 invariant-loop-number l = l.numbers.items ≡ range_with_len 0 l.number

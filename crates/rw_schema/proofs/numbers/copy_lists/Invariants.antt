@@ -1,6 +1,6 @@
 -- What was copied are the lists so far.
 use Rattle.std.proofs.Common.{◌≡◌, map, take}
-use Rattle.rw_schema.proofs.rows.copy_lists.Given as goal
+use Rattle.rw_schema.proofs.numbers.copy_lists.Given as goal
 
 abbrev pub invariant-loop-list : goal.invariant-loop-list
 invariant-loop-list l = map (λ list. list.items) l.copies.items ≡ map (λ list. list.items) (take l.list-index l.lists)

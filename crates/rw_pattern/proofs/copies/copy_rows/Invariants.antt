@@ -1,6 +1,0 @@
--- What was copied are the rows so far.
-use Rattle.std.proofs.Common.{◌≡◌, map, take}
-use Rattle.rw_pattern.proofs.copies.copy_rows.Given as goal
-
-abbrev pub invariant-loop-row : goal.invariant-loop-row
-invariant-loop-row l = map (λ row. row.items) l.copies.items ≡ map (λ row. row.items) (take l.row-index l.rows)
