@@ -5,7 +5,8 @@ use Rattle.std.proofs.lemmas.List.{length_push, get_or_append_left, get_or_push}
 use Rattle.std.proofs.lemmas.Option.{same_Some, slice_get_within, slice_get-get_or, get_or_from_slice_get}
 use Rattle.rw_schema.specs.declared.signature.AttrEnds.{AttrEnds}
 use Rattle.rw_schema.specs.RowLists.{RowLists}
-use Rattle.rw_classes.specs.Clashes.{MergesAt, MergesEach, clash_at, comes_earlier, lesser, IsFirstOf, FirstOf}
+use Rattle.rw_classes.specs.Clashes.{MergesAt, MergesEach, IsFirstOf, FirstOf}
+use Rattle.rw_classes.specs.inner.Clashes.{clash_at, comes_earlier, lesser}
 use Rattle.rw_classes.specs.FirstClash.{IsEarlierPlace}
 use Rattle.rw_classes.specs.declared.clashes.ClashAt.{ClashAt}
 use Rattle.rw_classes.specs.declared.merge.Difference.{Difference}

@@ -5,7 +5,7 @@ use Rattle.std.proofs.lemmas.Bool.{cases_eq}
 use Rattle.std.proofs.lemmas.List.{length-set, get_or-set_same, get_or-set_other}
 use Rattle.std.proofs.lemmas.List.Elements.{All-nil, All-cons, All-head, All-append, All-take, All-drop}
 use Rattle.rw_classes.specs.Classes.{Joins}
-use Rattle.rw_classes.specs.Links.{Descends, Follows, IsShortened, IsRootOf, AreUnited}
+use Rattle.rw_classes.specs.inner.Links.{Descends, Follows, IsShortened, IsRootOf, AreUnited}
 
 -- a write keeps a fact on each number and its parent, if it holds at the place that is written
 written : (P : ℕ → ℕ → Type 0) (parents : List ℕ) (place parent : ℕ) → place < length parents → P place parent

@@ -5,7 +5,8 @@ use Rattle.std.proofs.lemmas.List.{get_or-set_same, get_or-set_other}
 use Rattle.rw_schema.specs.declared.atom.Atom.{Atom}
 use Rattle.rw_schema.proofs.Atoms.{is_same_atom, atoms_decide}
 use Rattle.rw_classes.specs.declared.merge.Difference.{Difference}
-use Rattle.rw_classes.specs.Merging.{AreDifferent, AreFirsts, AreMerged, DiffersFrom, IsClash, IsFirst, IsLeastDifference, LeastDifference}
+use Rattle.rw_classes.specs.Merging.{AreFirsts, AreMerged, IsClash, IsFirst}
+use Rattle.rw_classes.specs.inner.Merging.{AreDifferent, DiffersFrom, IsLeastDifference, LeastDifference}
 
 -- two atoms are the same or not
 same_or_not : (a b : Atom) → (a ≡ b) ⊎ (a ≢ b)

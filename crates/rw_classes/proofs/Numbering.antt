@@ -5,7 +5,7 @@ use Rattle.std.proofs.Math.Seq.{get_or-append_seam}
 use Rattle.std.proofs.lemmas.List.FromFn.{length-range_with_len, get_or-range_with_len}
 use Rattle.std.specs.List.{range_with_len}
 use Rattle.rw_classes.specs.Classes.{AreNumbered, AreClasses}
-use Rattle.rw_classes.specs.Links.{Descends, Follows, AreUnited, AreRootClasses}
+use Rattle.rw_classes.specs.inner.Links.{Descends, Follows, AreUnited, AreRootClasses}
 
 -- an earlier entry stays where one more is put behind
 earlier : (xs : List ℕ) (last n x : ℕ) → length xs ≡ n → x < n → slice_index (xs ++ last ∷ []) x ≡ slice_index xs x

@@ -34,22 +34,6 @@ abbrev pub MergesEach : RowLists → RowLists → List (List ℕ) → List (List
 MergesEach left right numbers firsts attributes merged = (c : ℕ) (ends : AttrEnds) → c < length merged → slice_get attributes c ≡ Some ends
     → (each : Merged) × (slice_get merged c ≡ Some each) × MergesAt left right numbers firsts c ends each
 
--- the clash at an attribute, or none where merging its cells gave none
-abbrev pub clash_at : ℕ → AttrEnds → Merged → Option ClashAt
-clash_at c ends (Firsts firsts) = None
-clash_at c ends (Differ difference) = Some (record { object = ends.object; attr = record { 0 = c }; difference = difference })
-
--- the clash is at an earlier object, or there at an earlier class
-abbrev pub comes_earlier : ClashAt → ClashAt → Bool
-comes_earlier clash other =
-    nat_lt clash.object.0 other.object.0 || (clash.object.0 == other.object.0 && nat_lt clash.difference.class other.difference.class)
-
--- the new clash where it comes before the one found, else this
-abbrev pub lesser : Option ClashAt → Option ClashAt → Option ClashAt
-lesser None new = new
-lesser (Some found) None = Some found
-lesser (Some found) (Some new) = cond (comes_earlier new found) (Some new) (Some found)
-
 -- no clash of the first n attributes is at an earlier object, class and attribute
 pub record IsFirstOf (n : ℕ) (attributes : List AttrEnds) (merged : List Merged) (clash : ClashAt) : Type 0 where
   pub before : clash.attr.0 < n

@@ -4,7 +4,8 @@ ghost use Rattle.std.specs.Prelude.{◌≡◌, ◌≤◌, ℕ, IfOk, List, Some,
 ghost use Rattle.rw_schema.specs.declared.signature.AttrEnds.{AttrEnds};
 ghost use Rattle.rw_schema.specs.Presentation.{ends_of_attribute};
 ghost use Rattle.rw_classes.specs.ClassLists.{number_lists, first_lists};
-ghost use Rattle.rw_classes.specs.Clashes.{CanMerge, MergesAt, MergesEach, FirstOf, clash_at, comes_earlier, lesser};
+ghost use Rattle.rw_classes.specs.Clashes.{CanMerge, MergesAt, MergesEach, FirstOf};
+ghost use Rattle.rw_classes.specs.inner.Clashes.{clash_at, comes_earlier, lesser};
 
 use crate::classes::Classes;
 use crate::joined::{firsts_at, numbers_at};

@@ -3,7 +3,7 @@
 ghost use Rattle.std.specs.Prelude.{◌≡◌, ◌<◌, ◌≤◌, ◌^◌, [], ◌∷◌, All, IfOk, length};
 ghost use Rattle.std.specs.List.{range_with_len};
 ghost use Rattle.rw_classes.specs.Classes.{AreClasses};
-ghost use Rattle.rw_classes.specs.Links.{AreRootClasses, AreUnited, Descends, IsRootOf, IsShortened};
+ghost use Rattle.rw_classes.specs.inner.Links.{AreRootClasses, AreUnited, Descends, IsRootOf, IsShortened};
 
 use rw_schema::{OutOfMemory, numbers_below};
 use std::alloc::Global;

@@ -1,7 +1,8 @@
 //! The atoms that the parts of classes have in one attribute.
 
 ghost use Rattle.std.specs.Prelude.{◌≡◌, ◌<◌, ◌≤◌, ◌+◌, ◌^◌, ◌++◌, ◌&&◌, ◌↔◌, ℕ, All, IfOk, IsTrue, List, MatchOption, None, Option, Some, is_none, is_some, length, replicate, slice_index_or};
-ghost use Rattle.rw_classes.specs.Merging.{AreDifferent, AreFirsts, DiffersFrom, LeastDifference, Merges, cell_at, comes_before};
+ghost use Rattle.rw_classes.specs.Merging.{AreFirsts, Merges, cell_at};
+ghost use Rattle.rw_classes.specs.inner.Merging.{AreDifferent, DiffersFrom, LeastDifference, comes_before};
 
 use rw_schema::{Atom, OutOfMemory};
 use std::alloc::Global;

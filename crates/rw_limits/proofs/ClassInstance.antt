@@ -22,7 +22,7 @@ use Rattle.rw_table.proofs.Checked.{checked_known, names_apart, row_whole, image
 use Rattle.rw_classes.specs.Glued.{AreGlued}
 use Rattle.rw_classes.specs.FirstClash.{AreClassesOf}
 use Rattle.rw_classes.specs.Places.{spot, either, count_at, cell_of}
-use Rattle.rw_limits.specs.Spans.{span_frame, IsSpan, value_place, class_row_at, left_classes, right_classes, AreClassLists}
+use Rattle.rw_limits.specs.inner.Spans.{span_frame, IsSpan, value_place, class_row_at, left_classes, right_classes, AreClassLists}
 use Rattle.rw_classes.proofs.Sides.{spot_within, spot_here, either_left, either_right, either_spot_left, either_spot_right}
 use Rattle.rw_limits.proofs.Spans.{entry_of_map_in}
 

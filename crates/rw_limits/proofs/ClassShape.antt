@@ -18,7 +18,7 @@ use Rattle.rw_spec.specs.Ascending.{ascends}
 use Rattle.rw_table.specs.declared.fault.TableFault.{TableFault}
 use Rattle.rw_table.specs.declared.fault.TableFault.TheVariants.{Names}
 use Rattle.rw_table.proofs.Numbered.{range_named}
-use Rattle.rw_limits.specs.Spans.{value_place, class_row_at, class_names, AreClassLists}
+use Rattle.rw_limits.specs.inner.Spans.{value_place, class_row_at, class_names, AreClassLists}
 
 -- the lists of classes
 module _ (C : Signature) (category : IsCategory C) (F : Frame) (left right : RowLists) (numbers firsts : List (List ℕ)) (firsts_long : length firsts ≡ C.objects)

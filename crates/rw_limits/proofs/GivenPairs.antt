@@ -9,7 +9,7 @@ use Rattle.rw_schema.specs.First.{map_in}
 use Rattle.rw_schema.specs.RowLists.{list_at}
 use Rattle.rw_schema.specs.Signature.{Signature, IsCategory}
 use Rattle.rw_spec.specs.Pullback.{Cospan}
-use Rattle.rw_limits.specs.PairLists.{row_of_pairs, cells_of_pairs, lists_of_pairs}
+use Rattle.rw_limits.specs.inner.PairLists.{row_of_pairs, cells_of_pairs, lists_of_pairs}
 use Rattle.rw_limits.specs.Pairs.{pairs_at}
 use Rattle.rw_limits.specs.Pullbacks.{pair_value, pair_cell, pullback_lists}
 

@@ -12,8 +12,8 @@ use Rattle.std.proofs.lemmas.List.Sums.{position_or_len_is}
 use Rattle.rw_spec.proofs.Sequences.{contained_in_map, contained_in_flat_map}
 use Rattle.rw_spec.specs.Ascending.{ascends}
 use Rattle.rw_spec.proofs.Ascending.{ascends_apart, ascends_rest}
-use Rattle.rw_limits.specs.Fibers.{pairs_with}
-use Rattle.rw_limits.specs.PairLists.{IsBefore, IsLexicographic}
+use Rattle.rw_limits.specs.inner.Fibers.{pairs_with}
+use Rattle.rw_limits.specs.inner.PairLists.{IsBefore, IsLexicographic}
 use Rattle.rw_limits.specs.Pairs.{agreeing, agrees, all_pairs, is_pair, place_of}
 
 -- the comparison of pairs

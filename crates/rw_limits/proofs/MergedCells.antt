@@ -13,12 +13,13 @@ use Rattle.rw_schema.proofs.Lists.{get_or_map_in}
 use Rattle.rw_spec.specs.Instance.{look}
 use Rattle.rw_spec.proofs.Signatures.{holder_is}
 use Rattle.rw_table.proofs.Checked.{checked_known, shape_known, names_apart, cells_whole}
-use Rattle.rw_limits.specs.ClassTables.{first_cell, merged_cells}
+use Rattle.rw_limits.specs.inner.ClassTables.{first_cell, merged_cells}
 use Rattle.rw_classes.specs.Clashes.{both_cells, CanMerge, MergesAt, MergesEach, IsFirstOf, FirstOf}
 use Rattle.rw_classes.specs.Merging.{AreMerged, IsClash, cell_at}
 use Rattle.rw_classes.specs.FirstClash.{AreClassesOf, IsEarlierPlace, IsClashAt, IsFirstClash}
 use Rattle.rw_classes.specs.Places.{count_at, cell_of, either}
-use Rattle.rw_limits.specs.Spans.{span_frame, IsSpan, AreClassCells}
+use Rattle.rw_limits.specs.Spans.{AreClassCells}
+use Rattle.rw_limits.specs.inner.Spans.{span_frame, IsSpan}
 use Rattle.rw_classes.specs.declared.clashes.ClashAt.{ClashAt}
 use Rattle.rw_classes.specs.declared.merge.Difference.{Difference}
 use Rattle.rw_classes.specs.declared.merge.Merged.{Merged}

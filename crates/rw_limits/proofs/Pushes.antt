@@ -13,13 +13,14 @@ use Rattle.rw_table.proofs.Checked.{checked_known, shape_known, names_apart}
 use Rattle.rw_table.proofs.TableInstance.{table_instance}
 use Rattle.rw_universal.proofs.Gluing.{pushout_from_gluing}
 use Rattle.rw_classes.specs.Classes.{AreClasses}
-use Rattle.rw_limits.specs.ClassTables.{class_table, merged_cells, IsFaultOf, CanAssemble}
+use Rattle.rw_limits.specs.inner.ClassTables.{class_table, merged_cells, IsFaultOf, CanAssemble}
 use Rattle.rw_classes.specs.Clashes.{both_cells, MergesEach, IsFirstOf, FirstOf}
 use Rattle.rw_classes.specs.Merging.{cell_at}
 use Rattle.rw_limits.specs.Pushouts.{IsPushoutOf, PushesOut}
 use Rattle.rw_classes.specs.FirstClash.{AreClassesOf}
 use Rattle.rw_classes.specs.Places.{count_at, joined_at, cell_of}
-use Rattle.rw_limits.specs.Spans.{span_frame, IsSpan, left_classes, right_classes, AreClassCells, AreClassLists}
+use Rattle.rw_limits.specs.Spans.{AreClassCells}
+use Rattle.rw_limits.specs.inner.Spans.{span_frame, IsSpan, left_classes, right_classes, AreClassLists}
 use Rattle.rw_classes.specs.ClassLists.{AreClassesBy, number_lists, first_lists}
 use Rattle.rw_classes.specs.declared.clashes.ClashAt.{ClashAt}
 use Rattle.rw_classes.specs.declared.classes.Classes.{Classes}

@@ -23,7 +23,7 @@ use Rattle.rw_classes.specs.Classes.{AreClasses}
 use Rattle.rw_limits.specs.Pushouts.{frame_of}
 use Rattle.rw_classes.specs.FirstClash.{AreClassesOf}
 use Rattle.rw_classes.specs.Places.{spot, count_at, joined_at}
-use Rattle.rw_limits.specs.Spans.{span_frame, IsSpan, value_place, HasClassValues}
+use Rattle.rw_limits.specs.inner.Spans.{span_frame, IsSpan, value_place, HasClassValues}
 use Rattle.rw_classes.specs.ClassLists.{joined_by, part_count, AreJoinable, AreClassesBy}
 use Rattle.rw_classes.proofs.Sides.{spot_within, either_left, either_right}
 

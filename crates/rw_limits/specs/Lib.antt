@@ -1,10 +1,6 @@
-pub mod ClassTables
-pub mod Fibers
 pub mod OneLimit
-pub mod PairLists
 pub mod Pairs
 pub mod Pullbacks
 pub mod Pushouts
-pub mod RowCospans
-pub mod Sides
 pub mod Spans
+pub mod inner

@@ -6,8 +6,9 @@ ghost use Rattle.rw_schema.specs.declared.signature.AttrEnds.{AttrEnds};
 ghost use Rattle.rw_schema.specs.First.{map_in};
 ghost use Rattle.rw_schema.specs.Presentation.{ends_of_attribute};
 ghost use Rattle.rw_schema.specs.RowLists.{list_at};
-ghost use Rattle.rw_limits.specs.ClassTables.{IsFaultOf, first_cell, merged_cells};
-ghost use Rattle.rw_classes.specs.Clashes.{CanMerge, MergesAt, MergesEach, FirstOf, both_cells, clash_at, comes_earlier, lesser};
+ghost use Rattle.rw_limits.specs.inner.ClassTables.{IsFaultOf, first_cell, merged_cells};
+ghost use Rattle.rw_classes.specs.Clashes.{CanMerge, MergesAt, MergesEach, FirstOf, both_cells};
+ghost use Rattle.rw_classes.specs.inner.Clashes.{clash_at, comes_earlier, lesser};
 ghost use Rattle.rw_classes.specs.Merging.{cell_at};
 ghost use Rattle.rw_classes.specs.ClassLists.{number_lists, first_lists};
 

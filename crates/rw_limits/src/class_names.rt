@@ -3,7 +3,7 @@
 ghost use Rattle.std.specs.Prelude.{◌≡◌, ◌<◌, ◌≤◌, ◌^◌, ℕ, All, IfOk, drop, length, map, take};
 ghost use Rattle.std.specs.List.{range_with_len};
 ghost use Rattle.rw_schema.specs.RowLists.{list_at};
-ghost use Rattle.rw_limits.specs.Spans.{class_names, left_classes, right_classes};
+ghost use Rattle.rw_limits.specs.inner.Spans.{class_names, left_classes, right_classes};
 ghost use Rattle.rw_classes.specs.ClassLists.{number_lists, first_lists};
 
 use rw_classes::Classes;

@@ -5,7 +5,7 @@ ghost use Rattle.rw_schema.specs.declared.signature.ArrowEnds.{ArrowEnds};
 ghost use Rattle.rw_schema.specs.First.{map_in};
 ghost use Rattle.rw_schema.specs.Presentation.{ends_of_arrow};
 ghost use Rattle.rw_spec.specs.Ascending.{ascends};
-ghost use Rattle.rw_limits.specs.Spans.{value_place, class_row, class_row_at, HasClassValues};
+ghost use Rattle.rw_limits.specs.inner.Spans.{value_place, class_row, class_row_at, HasClassValues};
 ghost use Rattle.rw_classes.specs.ClassLists.{number_lists, first_lists};
 
 use rw_classes::{Classes, firsts_at, numbers_at, spot_of};

@@ -4,10 +4,10 @@ ghost use Rattle.std.specs.Prelude.{◌≡◌, ◌<◌, ◌^◌, ℕ, IfOk};
 ghost use Rattle.rw_schema.specs.Presentation.{signature_of};
 ghost use Rattle.rw_spec.specs.Tabled.{IsOver, instance_of_table};
 ghost use Rattle.rw_map.specs.Homs.{IsHom};
-ghost use Rattle.rw_limits.specs.ClassTables.{CanAssemble, class_table};
+ghost use Rattle.rw_limits.specs.inner.ClassTables.{CanAssemble, class_table};
 ghost use Rattle.rw_limits.specs.Pushouts.{PushesOut, frame_of};
 ghost use Rattle.rw_classes.specs.Places.{count_at};
-ghost use Rattle.rw_limits.specs.Spans.{left_classes, right_classes};
+ghost use Rattle.rw_limits.specs.inner.Spans.{left_classes, right_classes};
 ghost use Rattle.rw_classes.specs.ClassLists.{number_lists, first_lists};
 ghost use Rattle.rw_limits.specs.declared.colimit.GlueFault.TheVariants as faults;
 

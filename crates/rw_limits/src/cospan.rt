@@ -4,8 +4,8 @@ ghost use Rattle.std.specs.Prelude.{◌≡◌, ◌<◌, IfOk, length, map};
 ghost use Rattle.std.specs.List.{range_with_len};
 ghost use Rattle.rw_limits.specs.Pairs.{pairs_at};
 ghost use Rattle.rw_limits.specs.Pullbacks.{too_large};
-ghost use Rattle.rw_limits.specs.Sides.{AreSides, pairs_between};
-ghost use Rattle.rw_limits.specs.RowCospans.{IsCospan, cospan_in, signature_in};
+ghost use Rattle.rw_limits.specs.inner.Sides.{AreSides, pairs_between};
+ghost use Rattle.rw_limits.specs.inner.RowCospans.{IsCospan, cospan_in, signature_in};
 
 use crate::pairs::{Sides, agreeing_pairs, has_few_pairs};
 use rw_schema::{ObjectId, OutOfMemory, PartMap, Rows, Schema};

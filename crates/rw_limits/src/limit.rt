@@ -4,7 +4,7 @@ ghost use Rattle.std.specs.Prelude.{◌≡◌, ◌≤◌, All, IfOk, length, map
 ghost use Rattle.rw_schema.specs.Presentation.{signature_of};
 ghost use Rattle.rw_spec.specs.Tabled.{IsOver, instance_of_table};
 ghost use Rattle.rw_map.specs.Homs.{IsHom};
-ghost use Rattle.rw_limits.specs.PairLists.{IsLexicographic, lists_of_pairs};
+ghost use Rattle.rw_limits.specs.inner.PairLists.{IsLexicographic, lists_of_pairs};
 ghost use Rattle.rw_limits.specs.Pullbacks.{PullsBack, cospan_of, most_pairs};
 ghost use Rattle.rw_limits.specs.declared.limit.PullEnd.TheVariants.{OutOfMemory};
 

@@ -6,7 +6,7 @@ ghost use Rattle.rw_schema.specs.Atoms.{are_same_atom};
 ghost use Rattle.rw_schema.specs.First.{map_in};
 ghost use Rattle.rw_schema.specs.Presentation.{ends_of_attribute};
 ghost use Rattle.rw_spec.specs.Tabled.{instance_of_table};
-ghost use Rattle.rw_limits.specs.PairLists.{IsLexicographic, cell_of_pair, cells_of_pairs};
+ghost use Rattle.rw_limits.specs.inner.PairLists.{IsLexicographic, cell_of_pair, cells_of_pairs};
 ghost use Rattle.rw_limits.specs.Pairs.{common};
 ghost use Rattle.rw_limits.specs.Pullbacks.{most_pairs};
 

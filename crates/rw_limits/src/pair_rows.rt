@@ -4,7 +4,7 @@ ghost use Rattle.std.specs.Prelude.{◌≡◌, ◌<◌, ◌≤◌, All, IfOk, le
 ghost use Rattle.rw_schema.specs.First.{map_in};
 ghost use Rattle.rw_schema.specs.Presentation.{ends_of_arrow};
 ghost use Rattle.rw_spec.specs.Tabled.{instance_of_table};
-ghost use Rattle.rw_limits.specs.PairLists.{IsLexicographic, value_of_pair, row_of_pairs};
+ghost use Rattle.rw_limits.specs.inner.PairLists.{IsLexicographic, value_of_pair, row_of_pairs};
 ghost use Rattle.rw_limits.specs.Pairs.{place_of};
 ghost use Rattle.rw_limits.specs.Pullbacks.{most_pairs};
 

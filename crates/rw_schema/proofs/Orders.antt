@@ -19,7 +19,8 @@ use Rattle.rw_schema.specs.declared.signature.ArrowEnds.{ArrowEnds}
 use Rattle.rw_schema.specs.Presentation.{ends_of_arrow}
 use Rattle.rw_schema.specs.SchemaFaults.{has_ends}
 use Rattle.rw_schema.specs.Signature.{Signature, IsPath}
-use Rattle.rw_schema.specs.Topological.{HasCycle, IsTopological, is_placed, is_back, is_ready, is_next}
+use Rattle.rw_schema.specs.Topological.{HasCycle, IsTopological}
+use Rattle.rw_schema.specs.inner.Topological.{is_placed, is_back, is_ready, is_next}
 use Rattle.rw_schema.proofs.Lists.{list_all_at, list_any_map, slice_get_mapped}
 
 -- the number of an object

@@ -7,3 +7,4 @@ pub mod SchemaFaults
 pub mod SectionName
 pub mod Signature
 pub mod Topological
+pub mod inner

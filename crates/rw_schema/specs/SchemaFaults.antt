@@ -120,12 +120,3 @@ BuildsSchema lists (Err Limit) = schema_fault lists ≡ Some Limit
 BuildsSchema lists (Err (Twice section index)) = schema_fault lists ≡ Some (Twice section index)
 BuildsSchema lists (Err (Unknown section index)) = schema_fault lists ≡ Some (Unknown section index)
 BuildsSchema lists (Err (Ends equation)) = schema_fault lists ≡ Some (Ends equation)
-
--- what an index of the items' names answers: the names in order, where each is there once
-abbrev pub IndexesNames : {X : Type 0} → (X → List ℕ) → Section → List X → Result (List (List ℕ)) SchemaFault → Type 0
-IndexesNames name section items (Ok names) = (names ≡ map name items) × (first_twice name section items ≡ None)
-IndexesNames name section items (Err OutOfMemory) = Unit {0}
-IndexesNames name section items (Err Limit) = ⊥
-IndexesNames name section items (Err (Twice in_section index)) = first_twice name section items ≡ Some (Twice in_section index)
-IndexesNames name section items (Err (Unknown in_section index)) = ⊥
-IndexesNames name section items (Err (Ends equation)) = ⊥

@@ -8,7 +8,8 @@ ghost use Rattle.rw_schema.specs.First.{or_else};
 ghost use Rattle.rw_schema.specs.Signature.{IsCategory};
 ghost use Rattle.rw_schema.specs.Presentation.{Presentation, signature_of};
 ghost use Rattle.rw_schema.specs.Topological.{OrdersObjects};
-ghost use Rattle.rw_schema.specs.SchemaFaults.{has_ends, has_holder, is_of_schema, first_unknown, first_homeless, first_nameless, first_apart, BuildsSchema, IndexesNames};
+ghost use Rattle.rw_schema.specs.SchemaFaults.{has_ends, has_holder, is_of_schema, first_unknown, first_homeless, first_nameless, first_apart, BuildsSchema};
+ghost use Rattle.rw_schema.specs.inner.SchemaFaults.{IndexesNames};
 
 use crate::equations::first_ill_formed;
 use crate::limits::are_within_limits;

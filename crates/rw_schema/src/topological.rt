@@ -6,7 +6,8 @@ ghost use Rattle.std.specs.Option.{option_map};
 ghost use Rattle.rw_schema.specs.Presentation.{ends_of_arrow};
 ghost use Rattle.rw_schema.specs.SchemaFaults.{has_ends};
 ghost use Rattle.rw_schema.specs.Signature.{Signature};
-ghost use Rattle.rw_schema.specs.Topological.{is_placed, is_back, is_ready, is_next, IsNextOf, OrdersObjects};
+ghost use Rattle.rw_schema.specs.Topological.{OrdersObjects};
+ghost use Rattle.rw_schema.specs.inner.Topological.{is_placed, is_back, is_ready, is_next, IsNextOf};
 
 use crate::{ArrowDef, ObjectId, OutOfMemory};
 use std::alloc::Global;

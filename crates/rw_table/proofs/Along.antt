@@ -10,7 +10,7 @@ use Rattle.rw_schema.specs.SchemaFaults.{has_arrows}
 use Rattle.rw_schema.specs.Signature.{Signature, IsPath, IsCategory}
 use Rattle.rw_schema.proofs.Firsts.{first_same}
 use Rattle.rw_spec.specs.Instance.{follow, agrees_at, instance_of}
-use Rattle.rw_table.specs.Along.{instance_along, AreRowsOf}
+use Rattle.rw_table.specs.inner.Along.{instance_along, AreRowsOf}
 use Rattle.rw_table.specs.TableFaults.{has_shape, names_fault, range_fault, kind_fault, failure_of, equation_fault, table_fault}
 use Rattle.rw_table.specs.declared.fault.TableFault.{TableFault}
 use Rattle.rw_table.specs.declared.fault.TableFault.TheVariants.{Equation}

@@ -1,3 +1,3 @@
-pub mod Along
 pub mod TableFaults
 pub mod Unfaulted
+pub mod inner

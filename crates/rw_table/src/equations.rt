@@ -5,7 +5,7 @@ ghost use Rattle.std.specs.List.{list_all};
 ghost use Rattle.rw_schema.specs.First.{first_in};
 ghost use Rattle.rw_schema.specs.SchemaFaults.{has_arrows, is_of_schema};
 ghost use Rattle.rw_spec.specs.Instance.{follow, agrees_at};
-ghost use Rattle.rw_table.specs.Along.{instance_along, AreRowsOf};
+ghost use Rattle.rw_table.specs.inner.Along.{instance_along, AreRowsOf};
 ghost use Rattle.rw_table.specs.TableFaults.{failure_of, names_fault};
 
 use crate::TableFault;

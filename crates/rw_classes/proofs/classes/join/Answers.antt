@@ -4,7 +4,7 @@ use Rattle.std.proofs.lemmas.Result.{IfOk-weaker}
 use Rattle.std.specs.List.{range_with_len}
 use Rattle.std.proofs.lemmas.List.FromFn.{length-range_with_len}
 use Rattle.rw_classes.specs.Classes.{AreClasses}
-use Rattle.rw_classes.specs.Links.{AreUnited, AreRootClasses, Descends}
+use Rattle.rw_classes.specs.inner.Links.{AreUnited, AreRootClasses, Descends}
 use Rattle.rw_classes.proofs.Numbering.{singletons_descend, classes_from_trees}
 use Rattle.rw_classes.proofs.classes.join.Goals as goal
 

@@ -1,6 +1,6 @@
 use Rattle.std.proofs.Common.{ℕ, List, get_or, set, refl, ◌∙◌, arith}
 use Rattle.std.proofs.lemmas.List.{length-set}
-use Rattle.rw_classes.specs.Links.{IsShortened}
+use Rattle.rw_classes.specs.inner.Links.{IsShortened}
 use Rattle.rw_classes.proofs.Links.{halved, beyond_shared, shortened_more}
 use Rattle.rw_classes.proofs.classes.root.Goals as goal
 

@@ -1,6 +1,6 @@
 -- The ways so far are shortened, and the number that is reached is in the tree of x; it falls.
 use Rattle.std.proofs.Common.{◌≡◌, ℕ, ◌<◌, length}
-use Rattle.rw_classes.specs.Links.{Follows, IsShortened}
+use Rattle.rw_classes.specs.inner.Links.{Follows, IsShortened}
 use Rattle.rw_classes.proofs.classes.root.Given as goal
 
 abbrev pub invariant-loop-parents : goal.invariant-loop-parents

@@ -1,5 +1,5 @@
 use Rattle.std.proofs.Common.{ℕ, List, [], ◌∷◌, set, arith}
-use Rattle.rw_classes.specs.Links.{AreUnited, IsRootOf, IsShortened}
+use Rattle.rw_classes.specs.inner.Links.{AreUnited, IsRootOf, IsShortened}
 use Rattle.rw_classes.proofs.Links.{linked, root_kept, shortened_joins_none, shortened_more, turned, united_more}
 use Rattle.rw_classes.proofs.classes.unite.Goals as goal
 

@@ -1,7 +1,8 @@
 use Rattle.std.proofs.Common.{◌≡◌, ◌++◌, ℕ, List, Option, None, length, subst, ◌∙◌, sym, arith}
 use Rattle.std.proofs.lemmas.Grind.{common_steps}
 use Rattle.rw_schema.specs.declared.atom.Atom.{Atom}
-use Rattle.rw_classes.specs.Merging.{AreMerged, IsLeastDifference, LeastDifference, cell_at}
+use Rattle.rw_classes.specs.Merging.{AreMerged, cell_at}
+use Rattle.rw_classes.specs.inner.Merging.{IsLeastDifference, LeastDifference}
 use Rattle.rw_classes.proofs.Merging.{clash_from_difference, no_clash_before, merged_from_firsts}
 use Rattle.rw_classes.proofs.merge.merge.Goals as goal
 

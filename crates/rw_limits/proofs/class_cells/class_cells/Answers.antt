@@ -3,7 +3,7 @@ use Rattle.std.proofs.Common.{◌≡◌, ◌∙◌, ℕ, [], ◌∷◌, ◌++◌
 use Rattle.std.proofs.lemmas.Grind.{common_steps}
 use Rattle.std.proofs.lemmas.List.{map_push}
 use Rattle.rw_schema.proofs.Lists.{map_in_more}
-use Rattle.rw_limits.specs.ClassTables.{merged_cells}
+use Rattle.rw_limits.specs.inner.ClassTables.{merged_cells}
 use Rattle.rw_classes.specs.Clashes.{both_cells}
 use Rattle.rw_classes.specs.declared.merge.Merged.{Merged}
 use Rattle.rw_limits.proofs.class_cells.class_cells.Goals as goal

@@ -1,7 +1,7 @@
 -- The cells so far are those of the attributes so far.
 use Rattle.std.proofs.Common.{◌≡◌, map, take}
 use Rattle.rw_schema.specs.First.{map_in}
-use Rattle.rw_limits.specs.ClassTables.{merged_cells}
+use Rattle.rw_limits.specs.inner.ClassTables.{merged_cells}
 use Rattle.rw_classes.specs.Clashes.{both_cells}
 use Rattle.rw_limits.proofs.class_cells.class_cells.Given as goal
 

@@ -1,6 +1,6 @@
 -- The names so far are those of the classes so far.
 use Rattle.std.proofs.Common.{◌≡◌, map, take}
-use Rattle.rw_limits.specs.Spans.{class_names}
+use Rattle.rw_limits.specs.inner.Spans.{class_names}
 use Rattle.rw_classes.specs.ClassLists.{first_lists}
 use Rattle.rw_limits.proofs.class_names.name_lists.Given as goal
 

@@ -5,7 +5,7 @@ use Rattle.std.proofs.lemmas.List.{length-map, get_or-map, map_push}
 use Rattle.std.proofs.lemmas.Option.{slice_get-map, slice_get_read}
 use Rattle.rw_schema.proofs.Lists.{map_in_more}
 use Rattle.rw_schema.specs.Presentation.{ends_of_arrow}
-use Rattle.rw_limits.specs.Spans.{class_row_at}
+use Rattle.rw_limits.specs.inner.Spans.{class_row_at}
 use Rattle.rw_classes.specs.ClassLists.{number_lists, first_lists}
 use Rattle.rw_limits.proofs.class_rows.class_rows.Goals as goal
 

@@ -2,7 +2,7 @@
 use Rattle.std.proofs.Common.{◌≡◌, map, take}
 use Rattle.rw_schema.specs.First.{map_in}
 use Rattle.rw_schema.specs.Presentation.{ends_of_arrow}
-use Rattle.rw_limits.specs.Spans.{class_row_at}
+use Rattle.rw_limits.specs.inner.Spans.{class_row_at}
 use Rattle.rw_classes.specs.ClassLists.{number_lists, first_lists}
 use Rattle.rw_limits.proofs.class_rows.class_rows.Given as goal
 

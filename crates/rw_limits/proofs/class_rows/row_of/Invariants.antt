@@ -1,6 +1,6 @@
 -- The row so far is that of the classes so far.
 use Rattle.std.proofs.Common.{◌≡◌, take}
-use Rattle.rw_limits.specs.Spans.{class_row}
+use Rattle.rw_limits.specs.inner.Spans.{class_row}
 use Rattle.rw_limits.proofs.class_rows.row_of.Given as goal
 
 abbrev pub invariant-loop-first : goal.invariant-loop-first

@@ -3,7 +3,7 @@ use Rattle.std.proofs.Common.{◌≡◌, ◌∙◌, ◌≤◌, List, ℕ, length
 use Rattle.rw_schema.specs.Presentation.{signature_of, ends_of_attribute}
 use Rattle.rw_classes.specs.Clashes.{MergesEach, IsFirstOf, FirstOf}
 use Rattle.rw_limits.specs.Pushouts.{PushesOut, IsPushoutOf}
-use Rattle.rw_limits.specs.Spans.{IsSpan}
+use Rattle.rw_limits.specs.inner.Spans.{IsSpan}
 use Rattle.rw_classes.specs.ClassLists.{number_lists, first_lists, AreClassesBy}
 use Rattle.rw_classes.specs.declared.classes.Classes.{Classes}
 use Rattle.rw_classes.specs.declared.merge.Merged.{Merged}

@@ -2,7 +2,7 @@
 use Rattle.std.proofs.Common.{◌≡◌, ◌∙◌, ◌<◌, ◌≤◌, true, false, nat_le, List, ℕ, length, sym, ap, arith}
 use Rattle.rw_limits.specs.Pairs.{pairs_at}
 use Rattle.rw_limits.specs.Pullbacks.{most_pairs}
-use Rattle.rw_limits.specs.RowCospans.{cospan_in}
+use Rattle.rw_limits.specs.inner.RowCospans.{cospan_in}
 use Rattle.rw_limits.proofs.TooLarge.{too_large_here, too_large_next, too_large_past}
 use Rattle.rw_limits.proofs.cospan.first_too_large.Goals as goal
 

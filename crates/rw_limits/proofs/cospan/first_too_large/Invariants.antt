@@ -3,7 +3,7 @@ use Rattle.std.proofs.Common.{◌≡◌, length, drop}
 use Rattle.std.specs.List.{range_with_len}
 use Rattle.rw_schema.specs.First.{first_in}
 use Rattle.rw_limits.specs.Pullbacks.{too_large}
-use Rattle.rw_limits.specs.RowCospans.{cospan_in, signature_in}
+use Rattle.rw_limits.specs.inner.RowCospans.{cospan_in, signature_in}
 use Rattle.rw_limits.proofs.TooLarge.{if_too_large}
 use Rattle.rw_limits.proofs.cospan.first_too_large.Given as goal
 

@@ -2,7 +2,7 @@
 use Rattle.std.proofs.Common.{◌≡◌, ◌∙◌, ◌++◌, ◌∷◌, [], ℕ, arith, Vec, Global}
 use Rattle.std.proofs.lemmas.Grind.{common_steps}
 use Rattle.rw_limits.specs.Pairs.{pairs_at}
-use Rattle.rw_limits.specs.RowCospans.{cospan_in}
+use Rattle.rw_limits.specs.inner.RowCospans.{cospan_in}
 use Rattle.rw_limits.proofs.ListsMade.{list_pushed_at}
 use Rattle.rw_limits.proofs.cospan.object_pairs.Goals as goal
 

@@ -2,7 +2,7 @@
 use Rattle.std.proofs.Common.{◌≡◌, map}
 use Rattle.std.specs.List.{range_with_len}
 use Rattle.rw_limits.specs.Pairs.{pairs_at}
-use Rattle.rw_limits.specs.RowCospans.{cospan_in}
+use Rattle.rw_limits.specs.inner.RowCospans.{cospan_in}
 use Rattle.rw_limits.proofs.cospan.object_pairs.Given as goal
 
 abbrev pub invariant-loop-place : goal.invariant-loop-place

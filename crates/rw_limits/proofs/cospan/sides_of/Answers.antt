@@ -4,7 +4,7 @@ use Rattle.rw_schema.specs.RowLists.{list_at}
 use Rattle.rw_spec.specs.Ascending.{ascends}
 use Rattle.rw_spec.proofs.Ascending.{ascends_distinct}
 use Rattle.rw_table.proofs.Checked.{checked_known, names_ascend, shape_known}
-use Rattle.rw_limits.specs.RowCospans.{cospan_in, signature_in}
+use Rattle.rw_limits.specs.inner.RowCospans.{cospan_in, signature_in}
 use Rattle.rw_limits.proofs.ImagesWithin.{images_within}
 use Rattle.rw_limits.proofs.cospan.sides_of.Goals as goal
 

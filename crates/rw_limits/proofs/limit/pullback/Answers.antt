@@ -5,7 +5,7 @@ use Rattle.rw_schema.specs.Presentation.{signature_of}
 use Rattle.rw_schema.specs.Signature.{IsCategory}
 use Rattle.rw_spec.specs.Pullback.{Cospan}
 use Rattle.rw_table.proofs.Checked.{checked_known, names_ascend}
-use Rattle.rw_limits.specs.PairLists.{IsLexicographic}
+use Rattle.rw_limits.specs.inner.PairLists.{IsLexicographic}
 use Rattle.rw_limits.specs.Pairs.{pairs_at}
 use Rattle.rw_limits.specs.Pullbacks.{cospan_of, pullback_lists, left_parts, right_parts, too_large}
 use Rattle.rw_limits.proofs.GivenPairs.{count_given, pairs_given, each_given, lists_given}

@@ -4,7 +4,7 @@ use Rattle.std.proofs.lemmas.Grind.{common_steps}
 use Rattle.rw_schema.specs.declared.atom.Atom.{Atom}
 use Rattle.rw_schema.specs.Presentation.{ends_of_attribute}
 use Rattle.rw_spec.specs.Tabled.{instance_of_table}
-use Rattle.rw_limits.specs.PairLists.{cells_of_pairs}
+use Rattle.rw_limits.specs.inner.PairLists.{cells_of_pairs}
 use Rattle.rw_limits.proofs.ListsMade.{list_pushed}
 use Rattle.rw_limits.proofs.pair_cells.pair_cells.Goals as goal
 

@@ -3,7 +3,7 @@ use Rattle.std.proofs.Common.{◌≡◌, map, take}
 use Rattle.rw_schema.specs.First.{map_in}
 use Rattle.rw_schema.specs.Presentation.{ends_of_attribute}
 use Rattle.rw_spec.specs.Tabled.{instance_of_table}
-use Rattle.rw_limits.specs.PairLists.{cells_of_pairs}
+use Rattle.rw_limits.specs.inner.PairLists.{cells_of_pairs}
 use Rattle.rw_limits.proofs.pair_cells.pair_cells.Given as goal
 
 abbrev pub invariant-loop-place : goal.invariant-loop-place

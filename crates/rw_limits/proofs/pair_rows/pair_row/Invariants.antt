@@ -1,7 +1,7 @@
 -- The places of the pairs so far.
 use Rattle.std.proofs.Common.{◌≡◌, map, take}
 use Rattle.rw_spec.specs.Tabled.{instance_of_table}
-use Rattle.rw_limits.specs.PairLists.{value_of_pair}
+use Rattle.rw_limits.specs.inner.PairLists.{value_of_pair}
 use Rattle.rw_limits.proofs.pair_rows.pair_row.Given as goal
 
 abbrev pub invariant-loop-pair : goal.invariant-loop-pair

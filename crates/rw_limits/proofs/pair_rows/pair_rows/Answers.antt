@@ -3,7 +3,7 @@ use Rattle.std.proofs.Common.{◌≡◌, ◌++◌, ◌∷◌, [], ℕ, map, arit
 use Rattle.std.proofs.lemmas.Grind.{common_steps}
 use Rattle.rw_schema.specs.Presentation.{ends_of_arrow}
 use Rattle.rw_spec.specs.Tabled.{instance_of_table}
-use Rattle.rw_limits.specs.PairLists.{row_of_pairs}
+use Rattle.rw_limits.specs.inner.PairLists.{row_of_pairs}
 use Rattle.rw_limits.proofs.ListsMade.{list_pushed}
 use Rattle.rw_limits.proofs.pair_rows.pair_rows.Goals as goal
 

@@ -3,7 +3,7 @@ use Rattle.std.proofs.Common.{◌≡◌, map, take}
 use Rattle.rw_schema.specs.First.{map_in}
 use Rattle.rw_schema.specs.Presentation.{ends_of_arrow}
 use Rattle.rw_spec.specs.Tabled.{instance_of_table}
-use Rattle.rw_limits.specs.PairLists.{row_of_pairs}
+use Rattle.rw_limits.specs.inner.PairLists.{row_of_pairs}
 use Rattle.rw_limits.proofs.pair_rows.pair_rows.Given as goal
 
 abbrev pub invariant-loop-place : goal.invariant-loop-place

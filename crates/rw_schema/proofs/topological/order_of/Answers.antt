@@ -1,7 +1,7 @@
 -- One object more is placed in each round; where none can be, there is a cycle, and past the last round all are in order.
 use Rattle.std.proofs.Common.{◌≡◌, ℕ, ◌<◌, ◌≤◌, false, List, [], ◌∷◌, ◌++◌, length, ap, arith, refl, length-append}
 use Rattle.rw_schema.specs.declared.ids.ObjectId.{ObjectId}
-use Rattle.rw_schema.specs.Topological.{is_next}
+use Rattle.rw_schema.specs.inner.Topological.{is_next}
 use Rattle.rw_schema.proofs.Orders.{begun_empty, begun_more, ordered, stopped}
 use Rattle.rw_schema.proofs.topological.order_of.Goals as goal
 

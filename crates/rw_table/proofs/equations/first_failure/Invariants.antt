@@ -3,7 +3,7 @@ use Rattle.std.proofs.Common.{◌≡◌, drop}
 use Rattle.rw_schema.specs.First.{first_in, fault_unless}
 use Rattle.rw_schema.specs.RowLists.{list_at}
 use Rattle.rw_spec.specs.Instance.{agrees_at}
-use Rattle.rw_table.specs.Along.{instance_along}
+use Rattle.rw_table.specs.inner.Along.{instance_along}
 use Rattle.rw_table.specs.TableFaults.{failure_of}
 use Rattle.rw_table.specs.declared.fault.TableFault.TheVariants.{Equation}
 use Rattle.rw_table.proofs.equations.first_failure.Given as goal

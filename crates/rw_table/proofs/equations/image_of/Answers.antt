@@ -6,7 +6,7 @@ use Rattle.rw_schema.specs.declared.signature.ArrowEnds.{ArrowEnds}
 use Rattle.rw_schema.specs.RowLists.{RowLists, list_at}
 use Rattle.rw_spec.specs.Instance.{look}
 use Rattle.rw_spec.proofs.Signatures.{source_is}
-use Rattle.rw_table.specs.Along.{instance_along}
+use Rattle.rw_table.specs.inner.Along.{instance_along}
 use Rattle.rw_table.proofs.Checked.{names_ascend}
 use Rattle.rw_table.proofs.Places.{entry_or}
 use Rattle.rw_table.proofs.equations.image_of.Goals as goal

@@ -2,7 +2,7 @@
 use Rattle.std.proofs.Common.{◌≡◌, ◌∙◌, true, sym}
 use Rattle.rw_schema.specs.First.{first_in}
 use Rattle.rw_schema.specs.Presentation.{signature_of}
-use Rattle.rw_table.specs.Along.{instance_along}
+use Rattle.rw_table.specs.inner.Along.{instance_along}
 use Rattle.rw_table.specs.TableFaults.{has_shape, failure_of}
 use Rattle.rw_table.proofs.Along.{equations_along, equations_last, rows_of_arrows}
 use Rattle.rw_table.proofs.table.first_fault.Goals as goal

@@ -2,7 +2,7 @@
 use Rattle.std.proofs.Common.{◌≡◌, ◌∙◌, length}
 use Rattle.rw_schema.specs.Signature.{Signature}
 use Rattle.rw_spec.specs.Instance.{follow}
-use Rattle.rw_table.specs.Along.{instance_along}
+use Rattle.rw_table.specs.inner.Along.{instance_along}
 use Rattle.rw_table.proofs.Along.{follow_along, path_arrows, rows_of_arrows}
 use Rattle.rw_table.proofs.Checked.{checked_known}
 use Rattle.rw_table.proofs.table.Table.follow.Goals as goal

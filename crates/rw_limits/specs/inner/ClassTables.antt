@@ -10,7 +10,7 @@ use Rattle.rw_table.specs.TableFaults.{table_fault}
 use Rattle.rw_classes.specs.Clashes.{both_cells}
 use Rattle.rw_classes.specs.Merging.{Merges, cell_at}
 use Rattle.rw_classes.specs.FirstClash.{IsEarlierPlace}
-use Rattle.rw_limits.specs.Spans.{class_names, class_row_at, HasClassValues}
+use Rattle.rw_limits.specs.inner.Spans.{class_names, class_row_at, HasClassValues}
 use Rattle.rw_classes.specs.ClassLists.{number_lists, first_lists}
 use Rattle.rw_classes.specs.declared.clashes.ClashAt.{ClashAt}
 use Rattle.rw_classes.specs.declared.classes.Classes.{Classes}

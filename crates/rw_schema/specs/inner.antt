@@ -1,0 +1,2 @@
+pub mod SchemaFaults
+pub mod Topological
