@@ -1,5 +1,5 @@
 -- The cells of the classes of all objects, and the first clash of those.
-use Rattle.std.specs.Prelude.{◌≡◌, ◌==◌, ◌<◌, ◌+◌, ◌^◌, ◌&&◌, ◌||◌, ◌++◌, ℕ, Bool, nat_lt, cond, List, All, length, Option, Some, None, slice_get}
+use Rattle.std.specs.Prelude.{◌≡◌, ◌<◌, ◌+◌, ◌^◌, ◌++◌, ℕ, List, All, length, Option, Some, None, slice_get}
 use Rattle.rw_schema.specs.declared.atom.Atom.{Atom}
 use Rattle.rw_schema.specs.declared.signature.AttrEnds.{AttrEnds}
 use Rattle.rw_schema.specs.RowLists.{RowLists, list_at}
@@ -8,7 +8,7 @@ use Rattle.rw_classes.specs.Merging.{Merges, cell_at}
 use Rattle.rw_classes.specs.declared.clashes.ClashAt.{ClashAt}
 use Rattle.rw_classes.specs.declared.merge.Difference.{Difference}
 use Rattle.rw_classes.specs.declared.merge.Merged.{Merged}
-use Rattle.rw_classes.specs.declared.merge.Merged.TheVariants.{Firsts, Differ}
+use Rattle.rw_classes.specs.declared.merge.Merged.TheVariants.{Differ}
 
 -- the cells of an attribute on both sides, left ones first
 abbrev pub both_cells : RowLists → RowLists → ℕ → List (Option Atom)

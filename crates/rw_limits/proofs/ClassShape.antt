@@ -1,12 +1,11 @@
 -- The lists of classes have the right shape, and their names have no fault.
-use Rattle.std.proofs.Common.{◌≡◌, ◌∙◌, ℕ, zero, suc, ◌+◌, ◌<◌, ◌≤◌, true, nat_lt, List, [], ◌∷◌, length, Option, Some, None, slice_get, slice_index, refl, ap, sym, add-zero, zero-add, arith, eq-eqb}
-use Rattle.std.specs.List.{list_all, range_with_len}
-use Rattle.std.proofs.lemmas.Bool.{lt-ltb}
+use Rattle.std.proofs.Common.{◌≡◌, ◌∙◌, ℕ, ◌+◌, ◌<◌, true, List, [], length, Option, Some, None, slice_get, slice_index, refl, ap, sym, zero-add, arith, eq-eqb}
+use Rattle.std.specs.List.{range_with_len}
 use Rattle.std.proofs.lemmas.List.{length-map, get_or-map}
 use Rattle.std.proofs.lemmas.List.FromFn.{length-range_with_len}
 use Rattle.std.proofs.lemmas.Option.{slice_get_within, get_or_from_slice_get}
 use Rattle.rw_schema.specs.declared.signature.ArrowEnds.{ArrowEnds}
-use Rattle.rw_schema.specs.First.{first_in, fault_unless, all_in}
+use Rattle.rw_schema.specs.First.{fault_unless, all_in}
 use Rattle.rw_schema.specs.RowLists.{RowLists, list_at}
 use Rattle.rw_schema.specs.Signature.{Signature, IsCategory}
 use Rattle.rw_schema.proofs.Firsts.{unless_true, none_from}
@@ -14,7 +13,6 @@ use Rattle.rw_schema.proofs.Lists.{list_at_map, length_map_in, get_or_map_in}
 use Rattle.rw_spec.specs.Cocone.{Frame}
 use Rattle.rw_spec.proofs.Sequences.{all_in_from_each}
 use Rattle.rw_table.specs.TableFaults.{are_names, has_length, has_cells, has_shape, names_fault}
-use Rattle.rw_spec.specs.Ascending.{ascends}
 use Rattle.rw_table.specs.declared.fault.TableFault.{TableFault}
 use Rattle.rw_table.specs.declared.fault.TableFault.TheVariants.{Names}
 use Rattle.rw_table.proofs.Numbered.{range_named}

@@ -1,9 +1,7 @@
 -- Orders of the objects in which arrows point backwards.
-use Rattle.std.specs.Prelude.{◌≡◌, ◌==◌, ◌<◌, ◌&&◌, ◌||◌, ℕ, Bool, true, false, not, List, length, Contains, Option, Some, None, slice_get}
-use Rattle.std.specs.List.{list_any, list_all}
+use Rattle.std.specs.Prelude.{◌≡◌, ◌<◌, ℕ, List, length, Contains, Option, Some, None, slice_get}
 use Rattle.rw_schema.specs.declared.ids.ArrowId.{ArrowId}
 use Rattle.rw_schema.specs.declared.ids.ObjectId.{ObjectId}
-use Rattle.rw_schema.specs.declared.parts.ArrowDef.{ArrowDef}
 use Rattle.rw_schema.specs.declared.signature.ArrowEnds.{ArrowEnds}
 use Rattle.rw_schema.specs.Signature.{Signature, IsPath}
 

@@ -13,8 +13,8 @@ mod fault;
 mod ids;
 mod limits;
 mod memory;
-mod named;
 mod name_index;
+mod named;
 mod numbers;
 mod part_map;
 mod parts;
@@ -34,8 +34,8 @@ pub use limits::{
     LONGEST_NAME, LONGEST_PATH, MOST_ARROWS, MOST_ATTRIBUTES, MOST_EQUATIONS, MOST_OBJECTS,
 };
 pub use memory::OutOfMemory;
-pub use named::Named;
 pub use name_index::NameIndex;
+pub use named::Named;
 pub use numbers::{copy_lists, has_number, numbers_below};
 pub use part_map::PartMap;
 pub use parts::{ArrowDef, AttrDef, Equation, SchemaParts};

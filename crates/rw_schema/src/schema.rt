@@ -15,8 +15,8 @@ use crate::equations::first_ill_formed;
 use crate::limits::are_within_limits;
 use crate::topological::order_of;
 use crate::{
-    ArrowDef, ArrowId, AttrDef, AttrId, Equation, Named, NameIndex, ObjectId, OutOfMemory, SchemaFault,
-    SchemaParts, Section, Text,
+    ArrowDef, ArrowId, AttrDef, AttrId, Equation, NameIndex, Named, ObjectId, OutOfMemory,
+    SchemaFault, SchemaParts, Section, Text,
 };
 use std::alloc::Global;
 use std::marker::Model;
@@ -229,7 +229,11 @@ impl Schema {
 }
 
 /// The index of the items' names, or the first item whose name an earlier one has.
-fn index_names<T: Named>(alloc: Global, section: Section, items: &[T]) -> Result<NameIndex, SchemaFault>
+fn index_names<T: Named>(
+    alloc: Global,
+    section: Section,
+    items: &[T],
+) -> Result<NameIndex, SchemaFault>
     requires { length items.now < 257 }
     ensures { IndexesNames T.name_of section items.now result }
 {

@@ -1,15 +1,9 @@
 -- The cells of the classes of all objects, and the first clash of those: what proofs and functions inside the crate speak of.
-use Rattle.std.specs.Prelude.{◌≡◌, ◌==◌, ◌<◌, ◌+◌, ◌^◌, ◌&&◌, ◌||◌, ◌++◌, ℕ, Bool, nat_lt, cond, List, All, length, Option, Some, None, slice_get}
-use Rattle.rw_schema.specs.declared.atom.Atom.{Atom}
+use Rattle.std.specs.Prelude.{◌==◌, ◌&&◌, ◌||◌, ℕ, Bool, nat_lt, cond, Option, Some, None}
 use Rattle.rw_schema.specs.declared.signature.AttrEnds.{AttrEnds}
-use Rattle.rw_schema.specs.RowLists.{RowLists, list_at}
-use Rattle.rw_classes.specs.FirstClash.{IsEarlierPlace}
-use Rattle.rw_classes.specs.Merging.{Merges, cell_at}
 use Rattle.rw_classes.specs.declared.clashes.ClashAt.{ClashAt}
-use Rattle.rw_classes.specs.declared.merge.Difference.{Difference}
 use Rattle.rw_classes.specs.declared.merge.Merged.{Merged}
 use Rattle.rw_classes.specs.declared.merge.Merged.TheVariants.{Firsts, Differ}
-use Rattle.rw_classes.specs.Clashes.{both_cells, CanMerge, MergesAt, MergesEach, IsFirstOf, FirstOf}
 
 -- the clash at an attribute, or none where merging its cells gave none
 abbrev pub clash_at : ℕ → AttrEnds → Merged → Option ClashAt

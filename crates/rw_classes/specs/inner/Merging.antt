@@ -1,10 +1,7 @@
 -- The atoms that the parts of classes have in one attribute. A part is given by its place, and the left parts come first: what proofs and functions inside the crate speak of.
-use Rattle.std.specs.Prelude.{◌≡◌, ◌≢◌, ◌<◌, ◌≤◌, ℕ, Bool, true, nat_lt, List, length, Option, Some, None, slice_index, slice_index_or}
+use Rattle.std.specs.Prelude.{◌≡◌, ◌≢◌, ◌<◌, ◌≤◌, ℕ, Bool, true, nat_lt, List, Option, Some, None, slice_index, slice_index_or}
 use Rattle.rw_schema.specs.declared.atom.Atom.{Atom}
 use Rattle.rw_classes.specs.declared.merge.Difference.{Difference}
-use Rattle.rw_classes.specs.declared.merge.Merged.{Merged}
-use Rattle.rw_classes.specs.declared.merge.Merged.TheVariants.{Firsts, Differ}
-use Rattle.rw_classes.specs.Merging.{cell_at, IsFirst, AreFirsts, IsClash, AreMerged, Merges}
 
 -- both cells have an atom, and these differ
 abbrev pub AreDifferent : Option Atom → Option Atom → Type 0

@@ -1,22 +1,19 @@
 -- The cells of the classes of all objects, and the first clash of those.
-use Rattle.std.specs.Prelude.{◌≡◌, ◌==◌, ◌<◌, ◌≤◌, ◌+◌, ◌^◌, ◌&&◌, ◌||◌, ◌++◌, ℕ, Bool, nat_lt, cond, List, [], All, length, map, Option, Some, None, slice_get}
+use Rattle.std.specs.Prelude.{◌≡◌, ◌<◌, ◌≤◌, ◌^◌, ℕ, List, [], All, length, map, Option, Some, None, slice_get}
 use Rattle.rw_schema.specs.declared.atom.Atom.{Atom}
 use Rattle.rw_schema.specs.declared.signature.ArrowEnds.{ArrowEnds}
-use Rattle.rw_schema.specs.declared.signature.AttrEnds.{AttrEnds}
 use Rattle.rw_schema.specs.First.{map_in}
 use Rattle.rw_schema.specs.RowLists.{RowLists, list_at}
 use Rattle.rw_schema.specs.Signature.{Signature}
 use Rattle.rw_table.specs.TableFaults.{table_fault}
 use Rattle.rw_classes.specs.Clashes.{both_cells}
-use Rattle.rw_classes.specs.Merging.{Merges, cell_at}
-use Rattle.rw_classes.specs.FirstClash.{IsEarlierPlace}
+use Rattle.rw_classes.specs.Merging.{cell_at}
 use Rattle.rw_limits.specs.inner.Spans.{class_names, class_row_at, HasClassValues}
 use Rattle.rw_classes.specs.ClassLists.{number_lists, first_lists}
 use Rattle.rw_classes.specs.declared.clashes.ClashAt.{ClashAt}
 use Rattle.rw_classes.specs.declared.classes.Classes.{Classes}
 use Rattle.rw_limits.specs.declared.colimit.GlueFault.{GlueFault}
 use Rattle.rw_limits.specs.declared.colimit.GlueFault.TheVariants.{Clash, OutOfMemory}
-use Rattle.rw_classes.specs.declared.merge.Difference.{Difference}
 use Rattle.rw_classes.specs.declared.merge.Merged.{Merged}
 use Rattle.rw_classes.specs.declared.merge.Merged.TheVariants.{Firsts, Differ}
 

@@ -1,7 +1,6 @@
 -- Two homomorphisms out of one apex, in lists, and the classes of what they join: what proofs and functions inside the crate speak of.
-use Rattle.std.specs.Prelude.{◌≡◌, ◌<◌, ◌≤◌, ◌+◌, ◌^◌, ℕ, true, List, All, Option, Some, None, map, length, take, drop, slice_get, slice_index, slice_index_or}
+use Rattle.std.specs.Prelude.{◌≡◌, ◌<◌, ◌+◌, ◌^◌, ℕ, true, List, All, Some, None, map, length, take, drop, slice_get, slice_index}
 use Rattle.std.specs.List.{range_with_len}
-use Rattle.rw_schema.specs.declared.atom.Atom.{Atom}
 use Rattle.rw_schema.specs.declared.signature.ArrowEnds.{ArrowEnds}
 use Rattle.rw_schema.specs.declared.signature.AttrEnds.{AttrEnds}
 use Rattle.rw_schema.specs.First.{map_in}
@@ -13,10 +12,8 @@ use Rattle.rw_spec.specs.Instance.{instance_of}
 use Rattle.rw_table.specs.TableFaults.{table_fault}
 use Rattle.rw_spec.specs.Ascending.{ascends}
 use Rattle.rw_map.specs.Homs.{IsHom}
-use Rattle.rw_classes.specs.Classes.{AreClasses}
 use Rattle.rw_classes.specs.ClassLists.{part_count}
 use Rattle.rw_classes.specs.Places.{spot, either, count_at, cell_of}
-use Rattle.rw_classes.specs.declared.classes.Classes.{Classes}
 use Rattle.rw_limits.specs.Spans.{AreClassCells}
 
 -- the frame of the lists of two instances under an apex, with the images of its parts

@@ -1,12 +1,8 @@
 -- Orders of the objects in which arrows point backwards: what proofs and functions inside the crate speak of.
-use Rattle.std.specs.Prelude.{◌≡◌, ◌==◌, ◌<◌, ◌&&◌, ◌||◌, ℕ, Bool, true, false, not, List, length, Contains, Option, Some, None, slice_get}
+use Rattle.std.specs.Prelude.{◌≡◌, ◌==◌, ◌<◌, ◌&&◌, ◌||◌, ℕ, Bool, true, false, not, List, Option, Some, None}
 use Rattle.std.specs.List.{list_any, list_all}
-use Rattle.rw_schema.specs.declared.ids.ArrowId.{ArrowId}
 use Rattle.rw_schema.specs.declared.ids.ObjectId.{ObjectId}
 use Rattle.rw_schema.specs.declared.parts.ArrowDef.{ArrowDef}
-use Rattle.rw_schema.specs.declared.signature.ArrowEnds.{ArrowEnds}
-use Rattle.rw_schema.specs.Signature.{Signature, IsPath}
-use Rattle.rw_schema.specs.Topological.{HasCycle, IsBefore, IsTopological, OrdersObjects}
 
 -- the object is among those placed
 abbrev pub is_placed : List ObjectId → ℕ → Bool
