@@ -1,13 +1,11 @@
 -- The values of arrows before the step and after it.
-use Rattle.std.proofs.Common.{◌≡◌, ◌==◌, ℕ, ◌<◌, ◌≤◌, inl, inr, Some, List, map, slice_get, slice_index, refl, sym, ap, ◌∙◌, option_map}
+use Rattle.std.proofs.Common.{◌≡◌, ◌==◌, ℕ, ◌<◌, ◌≤◌, inl, inr, Some, List, slice_get, slice_index, refl, sym}
 use Rattle.std.specs.List.{list_any}
 use Rattle.std.specs.Option.{unwrap_or}
 use Rattle.std.proofs.lemmas.Bool.{cases_Bool, both_ways, lt-ltb, le-ltb}
-use Rattle.std.proofs.lemmas.Option.{slice_get-map, get_or_from_slice_get}
 use Rattle.rw_schema.specs.declared.signature.ArrowEnds.{ArrowEnds}
 use Rattle.rw_schema.specs.RowLists.{list_at}
 use Rattle.rw_schema.specs.Signature.{Signature, source_of}
-use Rattle.rw_spec.specs.Ends.{target_of}
 use Rattle.rw_spec.specs.Instance.{Instance}
 use Rattle.rw_spec.proofs.Look.{found_contained, look_missing}
 use Rattle.rw_spec.proofs.Signatures.{source_is, target_is}
