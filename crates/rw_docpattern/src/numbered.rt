@@ -55,7 +55,12 @@ fn numbered(
 }
 
 /// The set that the entry is.
-fn set_of(alloc: Global, ops: &OpTable, names: &NameIndex, entry: Entry) -> Result<SetCell, OutOfMemory>
+fn set_of(
+    alloc: Global,
+    ops: &OpTable,
+    names: &NameIndex,
+    entry: Entry,
+) -> Result<SetCell, OutOfMemory>
     requires operations { length (operations ops.now) < 2 ^ 32 }
     requires variables { length names.now ≤ 256 }
     ensures { IfOk result (λ set. set ≡ spec.set_of (operations ops.now) names.now entry) }

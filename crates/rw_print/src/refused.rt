@@ -46,9 +46,7 @@ fn refusal_value(alloc: Global, schema: &Schema, refusal: &Refusal) -> Result<Va
             object,
             first,
             second,
-        } => {
-            json!(in alloc; ["identification", object_name(schema, *object), *first, *second])
-        }
+        } => { json!(in alloc; ["identification", object_name(schema, *object), *first, *second]) }
         Refusal::Dangling { arrow, part } => {
             json!(in alloc; ["dangling", arrow_name(schema, *arrow), *part])
         }

@@ -15,11 +15,19 @@ pub enum Refusal {
         second: u32,
     },
     /// The arrow leads from the part, which stays, to a part that is removed.
-    Dangling { arrow: ArrowId, part: u32 },
+    Dangling {
+        arrow: ArrowId,
+        part: u32,
+    },
     /// The set on the cell of the right part has no value.
-    NoValue { right_part: u32, attr: AttrId },
+    NoValue {
+        right_part: u32,
+        attr: AttrId,
+    },
     /// The next name of the object would pass 16,777,216.
-    TooLarge { object: ObjectId },
+    TooLarge {
+        object: ObjectId,
+    },
     /// Two atoms would meet in the cell of the part with this name after the step.
     Clash {
         object: ObjectId,
