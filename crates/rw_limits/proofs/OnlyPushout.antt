@@ -26,7 +26,7 @@ use Rattle.rw_classes.proofs.OnlyClasses.{only_classes}
 use Rattle.rw_limits.specs.Pushouts.{IsGluedAt, IsPushoutOf}
 use Rattle.rw_limits.specs.Spans.{AreClassCells}
 use Rattle.rw_limits.specs.declared.colimit.PushoutResult.{PushoutResult}
-use Rattle.rw_limits.proofs.Sound.{same_rows}
+use Rattle.rw_table.proofs.Sound.{same_rows}
 
 -- ---- lists
 

@@ -45,7 +45,7 @@ entries_beside none names entries distinct beside =
     sym (get_or-map (look none names entries) names k 0 none among ∙ look_at none names entries k distinct among))
 
 -- lists that are the same one by one are the same
-same_rows : (left right : RowLists) → left.names ≡ right.names → left.arrows ≡ right.arrows → left.cells ≡ right.cells → left.next ≡ right.next → left ≡ right
+pub same_rows : (left right : RowLists) → left.names ≡ right.names → left.arrows ≡ right.arrows → left.cells ≡ right.cells → left.next ≡ right.next → left ≡ right
 same_rows left right names arrows cells next =
     let with_names = λ (lists : List (List ℕ)). record left { names = lists } in
     let with_arrows = λ (lists : List (List ℕ)). record (with_names right.names) { arrows = lists } in
