@@ -1,10 +1,9 @@
 -- There is one answer of a pushout, and one of a pullback, but for want of memory.
-use Rattle.std.proofs.Common.{◌≡◌, ◌≢◌, ◌∙◌, ℕ, ◌<◌, List, Option, Some, None, Result, Ok, Err, refl, sym, ap, subst}
+use Rattle.std.proofs.Common.{◌≡◌, ◌∙◌, ℕ, ◌<◌, List, Option, Some, None, Ok, Err, refl, sym, ap}
 use Rattle.std.proofs.lemmas.Option.{same_Some}
 use Rattle.rw_schema.specs.declared.atom.Atom.{Atom}
 use Rattle.rw_schema.specs.declared.ids.AttrId.{AttrId}
 use Rattle.rw_schema.specs.declared.ids.ObjectId.{ObjectId}
-use Rattle.rw_schema.specs.RowLists.{list_at}
 use Rattle.rw_schema.specs.Signature.{Signature, IsCategory}
 use Rattle.rw_spec.specs.Cocone.{Frame}
 use Rattle.rw_spec.specs.Distinct.{AreDistinct}
@@ -15,11 +14,9 @@ use Rattle.rw_classes.proofs.OnlyClash.{IsSamePlace, only_first_clash}
 use Rattle.rw_limits.specs.OneLimit.{HasOnePullback, HasOnePushout}
 use Rattle.rw_limits.specs.Pullbacks.{IsPullbackOf, PullsBack, too_large}
 use Rattle.rw_limits.specs.Pushouts.{IsPushoutOf, PushesOut}
-use Rattle.rw_limits.specs.declared.colimit.GlueFault.{GlueFault}
 use Rattle.rw_limits.specs.declared.colimit.GlueFault.TheVariants as glue_ends
 use Rattle.rw_limits.specs.declared.colimit.PushoutResult.{PushoutResult}
 use Rattle.rw_limits.specs.declared.limit.PullbackResult.{PullbackResult}
-use Rattle.rw_limits.specs.declared.limit.PullEnd.{PullEnd}
 use Rattle.rw_limits.specs.declared.limit.PullEnd.TheVariants as pull_ends
 use Rattle.rw_limits.proofs.OnlyPushout.{only_pushout}
 

@@ -1,8 +1,8 @@
 -- There is one pushout in lists: what is glued of both sides has no other names, numbers, rows and cells.
-use Rattle.std.proofs.Common.{◌≡◌, ◌∙◌, ◌⊎◌, ◌++◌, ◌-◌, ℕ, zero, suc, ◌+◌, ◌<◌, ◌≤◌, List, [], ◌∷◌, length, Option, Some, None, get_or, slice_get, slice_index, refl, sym, ap, subst, inl, inr, arith}
+use Rattle.std.proofs.Common.{◌≡◌, ◌∙◌, ◌⊎◌, ◌++◌, ◌-◌, ℕ, ◌<◌, List, [], ◌∷◌, length, Option, Some, None, get_or, slice_get, slice_index, refl, sym, ap, subst, inl, inr, zero-add, arith}
 use Rattle.std.specs.List.{Contains, range_with_len}
 use Rattle.std.proofs.lemmas.Bool.{cases_lt}
-use Rattle.std.proofs.lemmas.List.{ext_get_or, get_or_append_left, get_or-append_right, length-append}
+use Rattle.std.proofs.lemmas.List.{ext_get_or, get_or_append_left, get_or-append_right}
 use Rattle.std.proofs.lemmas.List.Elements.{Contains-get_or}
 use Rattle.std.proofs.lemmas.List.FromFn.{length-range_with_len, get_or-range_with_len}
 use Rattle.rw_schema.specs.declared.atom.Atom.{Atom}
@@ -16,11 +16,9 @@ use Rattle.rw_spec.specs.Distinct.{AreDistinct}
 use Rattle.rw_spec.specs.Homomorphism.{map_of}
 use Rattle.rw_spec.specs.Instance.{Instance, Has, instance_of, look}
 use Rattle.rw_spec.specs.Natural.{Map}
-use Rattle.rw_spec.specs.Tabled.{Tabled}
 use Rattle.rw_spec.proofs.Look.{look_at}
 use Rattle.rw_spec.proofs.Signatures.{source_is}
-use Rattle.rw_table.proofs.Checked.{AreChecked, AreShaped, checked_known, shape_known, names_apart, row_whole}
-use Rattle.rw_classes.specs.Classes.{AreClasses}
+use Rattle.rw_table.proofs.Checked.{AreShaped, checked_known, shape_known, names_apart, row_whole}
 use Rattle.rw_classes.specs.Places.{count_at, joined_at, cell_of}
 use Rattle.rw_classes.proofs.OnlyClasses.{only_classes}
 use Rattle.rw_limits.specs.Pushouts.{IsGluedAt, IsPushoutOf}
@@ -94,10 +92,7 @@ module _ (C : Signature) (category : IsCategory C) (F : Frame)
     name_is object k known within =
         ap (λ names. get_or names k 0) (pushout.glued object known).names
         ∙ get_or-range_with_len 0 (length (pushout.glued object known).firsts) k 0 within
-        ∙ zero_add k
-      where
-        zero_add : (k : ℕ) → 0 + k ≡ k
-        zero_add k = omega arith
+        ∙ zero-add k
 
     -- the entry of a row at a place is the value at the name
     entry_is : (a : ℕ) (ends : ArrowEnds) (k : ℕ) (there : slice_get C.arrows a ≡ Some ends) → k < length (pushout.glued ends.source.0 (category.sources a ends there)).firsts
