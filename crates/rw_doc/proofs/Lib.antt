@@ -2,12 +2,16 @@ pub mod Chains
 pub mod Checked
 pub mod EmptyInstances
 pub mod Faultless
+pub mod FirstEntries
 pub mod FirstFailures
 pub mod Listed
 pub mod Named
+pub mod NamesRead
 pub mod PartLists
 pub mod Readings
 pub mod SchemaEnds
+pub mod SchemaEntries
 pub mod SoundInstances
 pub mod SoundSchemas
 pub mod TextLists
+pub mod Written

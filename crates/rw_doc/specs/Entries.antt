@@ -1,6 +1,9 @@
 -- What a document's entries have wrong, and the first of it.
-use Rattle.std.specs.Prelude.{◌≡◌, ◌<◌, ◌⊎◌, ℕ, Result, Ok, Err}
+use Rattle.std.specs.Prelude.{◌≡◌, ◌<◌, ◌⊎◌, ℕ, List, Option, Some, None, Result, Ok, Err, option_and_then, slice_get}
+use Rattle.serde_json.specs.Data.{Data}
+use Rattle.rw_schema.specs.declared.section.Section.{Section}
 use Rattle.rw_doc.specs.declared.fault.DocFault.{DocFault}
+use Rattle.rw_doc.specs.Faults.{fault_at}
 
 -- What is wrong with an entry is told by its code: Has code says that the code's condition holds of the entry. It may
 -- presuppose what lesser codes and earlier entries settle, since it is looked at only where these hold of nothing.
@@ -51,3 +54,36 @@ IsFirstOfLists Own OwnOf Has list place code =
 abbrev pub Tells : {A : Type 0} → Type 0 → (DocFault → Type 0) → Result A DocFault → Type 0
 Tells NothingIsWrong IsFirst (Ok value) = NothingIsWrong
 Tells NothingIsWrong IsFirst (Err fault) = IsFirst fault
+
+-- a section that is a list tells its first fault: that of the list itself, or of the first entry that has one
+abbrev pub TellsFirst : {A : Type 0} → Section → (ℕ → Type 0) → (ℕ → ℕ → Type 0) → Result A DocFault → Type 0
+TellsFirst section Own Has reading = Tells (IsClear Own Has)
+    (λ fault. (fault ≡ fault_at fault.code section fault.first 0) × IsFirstOfList Own Has fault.first fault.code) reading
+
+-- so does a section that is a list of lists
+abbrev pub TellsFirstOfLists : {A : Type 0} → Section → (ℕ → Type 0) → (ℕ → ℕ → Type 0) → (ℕ → ℕ → ℕ → Type 0) → Result A DocFault → Type 0
+TellsFirstOfLists section Own OwnOf Has reading = Tells (AreClear Own OwnOf Has)
+    (λ fault. (fault ≡ fault_at fault.code section fault.first fault.second) × IsFirstOfLists Own OwnOf Has fault.first fault.second fault.code) reading
+
+-- ---- what is written at a place
+
+-- what the value at the place is in a form that an entry may have
+abbrev pub form_at : {A : Type 0} → (Data → Option A) → List Data → ℕ → Option A
+form_at form items place = option_and_then form (slice_get items place)
+
+-- a value stands at the place, and is of another form
+abbrev pub HasOtherForm : {A : Type 0} → (Data → Option A) → List Data → ℕ → Type 0
+HasOtherForm form items place = (value : Data) × (slice_get items place ≡ Some value) × (form value ≡ None)
+
+-- what is written at the place has the property
+abbrev pub IsWritten : {A : Type 0} → (Data → Option A) → List Data → ℕ → (A → Type 0) → Type 0
+IsWritten form items place Property = (entry : _) × (form_at form items place ≡ Some entry) × Property entry
+
+-- the name at the place is the name of an earlier entry, too
+abbrev pub RepeatsName : {A : Type 0} → (Data → Option A) → (A → List ℕ) → List Data → ℕ → A → Type 0
+RepeatsName form name items place entry =
+    (other : ℕ) × (other < place) × (earlier : _) × (form_at form items other ≡ Some earlier) × (name earlier ≡ name entry)
+
+-- none of the names is this
+abbrev pub IsNoneOf : List (List ℕ) → List ℕ → Type 0
+IsNoneOf names name = (place : ℕ) → slice_get names place ≡ Some name → ⊥

@@ -6,6 +6,7 @@ pub mod Instances
 pub mod Json
 pub mod Numbers
 pub mod Pieces
+pub mod SchemaEntries
 pub mod Schemas
 pub mod Sections
 pub mod Texts

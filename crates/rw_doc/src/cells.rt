@@ -3,6 +3,7 @@
 ghost use Rattle.std.specs.Prelude.{◌≡◌, ◌<◌, ◌≤◌, IfOk, length, map, option_map, slice_get, slice_index};
 ghost use Rattle.std.specs.List.{All};
 ghost use Rattle.serde_json.specs.View.{view};
+ghost use Rattle.rw_schema.specs.Limits.{most_attributes};
 ghost use Rattle.rw_schema.specs.Presentation.{signature_of};
 ghost use Rattle.rw_schema.specs.Signature.{holder_of};
 ghost use Rattle.rw_doc.specs.Chain.{each_in};
@@ -128,7 +129,7 @@ fn cell_lists(
     items: &[Value],
 ) -> Result<Vec<Vec<Option<Atom>>>, ReadDocEnd>
     requires items { length items.now ≡ length schema.now.attributes }
-    requires attributes { length schema.now.attributes ≤ 256 }
+    requires attributes { length schema.now.attributes ≤ most_attributes }
     requires parts { length parts.now ≡ length schema.now.objects }
     requires few { All (λ count. count ≤ 1000000) parts.now }
     ensures { Gives (λ lists. map (λ list. list.items) lists.items) result (each_in (spec.read_cell_list (signature_of schema.now) blanks parts.now) 0 (map view items.now)) }

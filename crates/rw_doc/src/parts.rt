@@ -3,6 +3,7 @@
 ghost use Rattle.std.specs.Prelude.{◌≡◌, ◌≤◌, IfOk, length, map, replicate};
 ghost use Rattle.std.specs.List.{range_with_len};
 ghost use Rattle.serde_json.specs.View.{view};
+ghost use Rattle.rw_schema.specs.Limits.{most_objects};
 ghost use Rattle.rw_schema.specs.Presentation.{signature_of};
 ghost use Rattle.rw_doc.specs.Chain.{each_in};
 ghost use Rattle.rw_doc.specs.Gives.{Gives};
@@ -35,7 +36,7 @@ fn read_part_count(object: u32, value: &Value) -> Result<u32, ReadDocEnd>
 
 /// The number that each value is.
 fn part_counts(alloc: Global, items: &[Value]) -> Result<Vec<u32>, ReadDocEnd>
-    requires { length items.now ≤ 64 }
+    requires { length items.now ≤ most_objects }
     ensures { Gives (λ counts. counts.items) result (each_in spec.read_part_count 0 (map view items.now)) }
 {
     let mut counts = Vec::new(alloc);

@@ -3,6 +3,7 @@
 ghost use Rattle.std.specs.Prelude.{◌≡◌, ◌<◌, ◌≤◌, IfOk, length, map, slice_index};
 ghost use Rattle.std.specs.List.{All};
 ghost use Rattle.serde_json.specs.View.{view};
+ghost use Rattle.rw_schema.specs.Limits.{most_arrows};
 ghost use Rattle.rw_schema.specs.Presentation.{signature_of};
 ghost use Rattle.rw_schema.specs.Signature.{source_of};
 ghost use Rattle.rw_spec.specs.Ends.{target_of};
@@ -97,7 +98,7 @@ fn row_lists(
     items: &[Value],
 ) -> Result<Vec<Vec<u32>>, ReadDocEnd>
     requires items { length items.now ≡ length schema.now.arrows }
-    requires arrows { length schema.now.arrows ≤ 256 }
+    requires arrows { length schema.now.arrows ≤ most_arrows }
     requires parts { length parts.now ≡ length schema.now.objects }
     requires few { All (λ count. count ≤ 1000000) parts.now }
     ensures { Gives (λ rows. map (λ row. row.items) rows.items) result (each_in (spec.read_row (signature_of schema.now) parts.now) 0 (map view items.now)) }
