@@ -1,5 +1,5 @@
 -- The first fault of entries that are read one after the other.
-use Rattle.std.proofs.Common.{◌≡◌, ◌<◌, ◌≤◌, ◌+◌, ◌⊎◌, inl, inr, ℕ, zero, suc, Bool, true, false, Option, Some, None, Result, Ok, Err, List, [], ◌∷◌, ◌++◌, slice_get, refl, sym, subst, add-zero, arith}
+use Rattle.std.proofs.Common.{◌≡◌, ◌<◌, ◌≤◌, ◌+◌, ◌⊎◌, inl, inr, ℕ, zero, suc, Bool, true, false, Option, Some, None, Result, Ok, Err, List, [], ◌∷◌, ◌++◌, slice_get, refl, sym, subst, add-zero, zero-add, arith}
 use Rattle.rw_schema.specs.declared.section.Section.{Section}
 use Rattle.rw_doc.specs.declared.fault.DocFault.{DocFault}
 use Rattle.rw_doc.specs.Chain.{and_then, each_in, each_after, some_or, checked}
@@ -167,3 +167,16 @@ list_tells section Own Has (Ok items) f own entries = entries_tell section Own H
 list_tells section Own Has (Err fault) f own entries =
     subst (λ (fault : DocFault). (fault ≡ fault_at fault.code section fault.first 0) × IsFirstOfList Own Has fault.first fault.code) (sym own.1)
     (refl, inl (refl, own.2))
+
+-- entries of a list that are each read by their place
+pub placed_tell : {X A : Type 0} (section : Section) (Own : ℕ → Type 0) (Has : ℕ → ℕ → Type 0) (list : Result (List X) DocFault) (items : List X) (f : ℕ → X → Result A DocFault)
+    → TellsCode Own (λ code. fault_at code section 0 0) list → ((read : List X) → list ≡ Ok read → items ≡ read)
+    → ((place : ℕ) (x : X) → slice_get items place ≡ Some x → TellsCode (Has place) (λ code. fault_at code section place 0) (f place x))
+    → ((place : ℕ) → slice_get items place ≡ None → HasNone (Has place))
+    → TellsFirst section Own Has (and_then list (each_in f 0))
+placed_tell section Own Has list items f own are entries past =
+    list_tells section Own Has list (each_in f 0) own
+    (λ read is. subst (λ list. Tells ((place : ℕ) → HasNone (Has place))
+        (AtFirst (λ place. HasNone (Has place)) (λ place fault. (code : ℕ) × (fault ≡ fault_at code section place 0) × IsLeastCode (Has place) code)) (each_in f 0 list)) (are read is)
+    (each_tells f (λ place. HasNone (Has place)) (λ place fault. (code : ℕ) × (fault ≡ fault_at code section place 0) × IsLeastCode (Has place) code) 0 items
+    (λ place x found. rw (zero-add place) (entries place x found)) past))

@@ -14,4 +14,5 @@ pub mod SchemaEntries
 pub mod SoundInstances
 pub mod SoundSchemas
 pub mod TextLists
+pub mod Unnamed
 pub mod Written
