@@ -3,7 +3,7 @@ use Rattle.std.proofs.Common.{◌≡◌, ◌<◌, ◌≤◌, ◌+◌, ◌⊎◌,
 use Rattle.rw_schema.specs.declared.section.Section.{Section}
 use Rattle.rw_doc.specs.declared.fault.DocFault.{DocFault}
 use Rattle.rw_doc.specs.Chain.{and_then, each_in, each_after, some_or, checked}
-use Rattle.rw_doc.specs.Entries.{IsLeastCode, HasNone, no_code, IsFirstOfList, Tells, TellsFirst}
+use Rattle.rw_doc.specs.Entries.{IsLeastCode, HasNone, IsClear, IsFirstOfList, no_code, Tells, TellsFirst}
 use Rattle.rw_doc.specs.Faults.{fault_at}
 
 -- ---- one entry
@@ -146,37 +146,44 @@ after_tells f IsReadTo Clear IsFirst before (x ∷ xs) start more entries past =
     (λ y read. after_tells f (λ place. IsReadTo (suc place)) (λ place. Clear (suc place)) (λ place. IsFirst (suc place)) (before ++ y ∷ []) xs
     (more 0 x before y refl start read) (λ place. more (suc place)) (λ place. entries (suc place)) (λ place. past (suc place)))
 
--- ---- a section that is a list
+-- ---- a list
 
--- the first fault of the entries is that of the section
-entries_tell : {A : Type 0} (section : Section) (Own : ℕ → Type 0) (Has : ℕ → ℕ → Type 0) (reading : Result A DocFault) → HasNone Own
-    → Tells ((place : ℕ) → HasNone (Has place)) (AtFirst (λ place. HasNone (Has place)) (λ place fault. (code : ℕ) × (fault ≡ fault_at code section place 0) × IsLeastCode (Has place) code)) reading
-    → TellsFirst section Own Has reading
-entries_tell section Own Has (Ok value) own tells = record { own = own; entries = tells }
-entries_tell section Own Has (Err fault) own tells =
-    subst (λ (fault : DocFault). (fault ≡ fault_at fault.code section fault.first 0) × IsFirstOfList Own Has fault.first fault.code) (sym tells.1.1)
-    (refl, inr (own, record { entry = tells.1.2; before = tells.2 }))
+-- a list tells its first fault, where the fault of each place and code is this
+abbrev pub TellsFirstAt : {A : Type 0} → (ℕ → ℕ → DocFault) → (ℕ → Type 0) → (ℕ → ℕ → Type 0) → Result A DocFault → Type 0
+TellsFirstAt at Own Has reading = Tells (IsClear Own Has) (λ fault. (place : ℕ) × (code : ℕ) × (fault ≡ at place code) × IsFirstOfList Own Has place code) reading
+
+-- the entries of a list tell their first fault
+abbrev pub EntriesTell : {A : Type 0} → (ℕ → ℕ → DocFault) → (ℕ → ℕ → Type 0) → Result A DocFault → Type 0
+EntriesTell at Has reading = Tells ((place : ℕ) → HasNone (Has place))
+    (AtFirst (λ place. HasNone (Has place)) (λ place fault. (code : ℕ) × (fault ≡ at place code) × IsLeastCode (Has place) code)) reading
+
+-- where nothing is wrong with the list itself, the first fault of the entries is that of the list
+pub entries_told : {A : Type 0} (at : ℕ → ℕ → DocFault) (Own : ℕ → Type 0) (Has : ℕ → ℕ → Type 0) (reading : Result A DocFault) → HasNone Own
+    → EntriesTell at Has reading → TellsFirstAt at Own Has reading
+entries_told at Own Has (Ok value) own tells = record { own = own; entries = tells }
+entries_told at Own Has (Err fault) own tells = (tells.0, tells.1.0, tells.1.1, inr (own, record { entry = tells.1.2; before = tells.2 }))
 
 -- a list, and then its entries
-pub list_tells : {A B : Type 0} (section : Section) (Own : ℕ → Type 0) (Has : ℕ → ℕ → Type 0) (list : Result A DocFault) (f : A → Result B DocFault)
-    → TellsCode Own (λ code. fault_at code section 0 0) list
-    → ((items : A) → list ≡ Ok items → Tells ((place : ℕ) → HasNone (Has place))
-        (AtFirst (λ place. HasNone (Has place)) (λ place fault. (code : ℕ) × (fault ≡ fault_at code section place 0) × IsLeastCode (Has place) code)) (f items))
-    → TellsFirst section Own Has (and_then list f)
-list_tells section Own Has (Ok items) f own entries = entries_tell section Own Has (f items) own (entries items refl)
-list_tells section Own Has (Err fault) f own entries =
-    subst (λ (fault : DocFault). (fault ≡ fault_at fault.code section fault.first 0) × IsFirstOfList Own Has fault.first fault.code) (sym own.1)
-    (refl, inl (refl, own.2))
+pub list_tells : {A B : Type 0} (at : ℕ → ℕ → DocFault) (Own : ℕ → Type 0) (Has : ℕ → ℕ → Type 0) (list : Result A DocFault) (f : A → Result B DocFault)
+    → TellsCode Own (at 0) list → ((items : A) → list ≡ Ok items → EntriesTell at Has (f items)) → TellsFirstAt at Own Has (and_then list f)
+list_tells at Own Has (Ok items) f own entries = entries_told at Own Has (f items) own (entries items refl)
+list_tells at Own Has (Err fault) f own entries = (0, own.0, own.1, inl (refl, own.2))
 
--- entries of a list that are each read by their place
-pub placed_tell : {X A : Type 0} (section : Section) (Own : ℕ → Type 0) (Has : ℕ → ℕ → Type 0) (list : Result (List X) DocFault) (items : List X) (f : ℕ → X → Result A DocFault)
-    → TellsCode Own (λ code. fault_at code section 0 0) list → ((read : List X) → list ≡ Ok read → items ≡ read)
-    → ((place : ℕ) (x : X) → slice_get items place ≡ Some x → TellsCode (Has place) (λ code. fault_at code section place 0) (f place x))
+-- a list whose entries are each read by their place
+pub placed_tell : {X A : Type 0} (at : ℕ → ℕ → DocFault) (Own : ℕ → Type 0) (Has : ℕ → ℕ → Type 0) (list : Result (List X) DocFault) (items : List X) (f : ℕ → X → Result A DocFault)
+    → TellsCode Own (at 0) list → ((read : List X) → list ≡ Ok read → items ≡ read)
+    → ((place : ℕ) (x : X) → slice_get items place ≡ Some x → TellsCode (Has place) (at place) (f place x))
     → ((place : ℕ) → slice_get items place ≡ None → HasNone (Has place))
-    → TellsFirst section Own Has (and_then list (each_in f 0))
-placed_tell section Own Has list items f own are entries past =
-    list_tells section Own Has list (each_in f 0) own
-    (λ read is. subst (λ list. Tells ((place : ℕ) → HasNone (Has place))
-        (AtFirst (λ place. HasNone (Has place)) (λ place fault. (code : ℕ) × (fault ≡ fault_at code section place 0) × IsLeastCode (Has place) code)) (each_in f 0 list)) (are read is)
-    (each_tells f (λ place. HasNone (Has place)) (λ place fault. (code : ℕ) × (fault ≡ fault_at code section place 0) × IsLeastCode (Has place) code) 0 items
+    → TellsFirstAt at Own Has (and_then list (each_in f 0))
+placed_tell at Own Has list items f own are entries past =
+    list_tells at Own Has list (each_in f 0) own
+    (λ read is. subst (λ list. EntriesTell at Has (each_in f 0 list)) (are read is)
+    (each_tells f (λ place. HasNone (Has place)) (λ place fault. (code : ℕ) × (fault ≡ at place code) × IsLeastCode (Has place) code) 0 items
     (λ place x found. rw (zero-add place) (entries place x found)) past))
+
+-- the place and the code of a section's entry are in its fault
+pub told_in_section : {A : Type 0} (section : Section) (Own : ℕ → Type 0) (Has : ℕ → ℕ → Type 0) (reading : Result A DocFault)
+    → TellsFirstAt (λ place code. fault_at code section place 0) Own Has reading → TellsFirst section Own Has reading
+told_in_section section Own Has (Ok value) tells = tells
+told_in_section section Own Has (Err fault) tells =
+    subst (λ (fault : DocFault). (fault ≡ fault_at fault.code section fault.first 0) × IsFirstOfList Own Has fault.first fault.code) (sym tells.2) (refl, tells.3)

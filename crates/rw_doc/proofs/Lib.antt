@@ -4,6 +4,8 @@ pub mod EmptyInstances
 pub mod Faultless
 pub mod FirstEntries
 pub mod FirstFailures
+pub mod FirstLists
+pub mod InstanceEntries
 pub mod Listed
 pub mod Named
 pub mod NamesRead

@@ -1,5 +1,5 @@
 -- The readers of a schema's sections tell the first fault.
-use Rattle.std.proofs.Common.{◌≡◌, ◌∙◌, ◌<◌, ◌≤◌, ◌&&◌, ◌+◌, ◌⊎◌, inl, inr, ℕ, zero, suc, Bool, true, false, not, Option, Some, None, Result, Ok, Err, List, [], ◌∷◌, ◌++◌, length, map, nat_le, option_and_then, option_map, slice_get, refl, sym, ap, subst, arith}
+use Rattle.std.proofs.Common.{◌≡◌, ◌∙◌, ◌<◌, ◌≤◌, ◌⊎◌, inl, inr, ℕ, true, false, not, Option, Some, None, Result, Ok, List, [], length, map, nat_le, slice_get, refl, sym, ap, subst, arith}
 use Rattle.std.specs.List.{list_any}
 use Rattle.std.specs.Str.{bytes_eq}
 use Rattle.std.proofs.lemmas.Bool.{and_parts, cases_Bool, leb-true}
@@ -25,7 +25,7 @@ use Rattle.rw_doc.specs.SchemaEntries.{HasNoneOf, IsEquationOf}
 use Rattle.rw_doc.specs.Schemas
 use Rattle.rw_doc.specs.Schemas.{ArrowTexts, AttributeTexts, EquationTexts}
 use Rattle.rw_doc.proofs.Chains.{chain, checked_then, there}
-use Rattle.rw_doc.proofs.FirstEntries.{TellsCode, AtFirst, or_code, only_code, tells_alone, tells_checked, tells_some, tells_read, after_tells, list_tells, placed_tell}
+use Rattle.rw_doc.proofs.FirstEntries.{TellsCode, EntriesTell, or_code, only_code, tells_alone, tells_checked, tells_some, tells_read, after_tells, list_tells, placed_tell, told_in_section}
 use Rattle.rw_doc.proofs.NamesRead.{NamesRead, no_names_read, one_name_read, name_repeats, is_repeated}
 use Rattle.rw_doc.proofs.Unnamed.{object_unknown, object_there, object_number, path_unknown, path_there, path_numbers, same_path}
 use Rattle.rw_doc.proofs.Written.{written_at, written_is, no_other_form, nothing_written, nothing_of_other_form, never_both, many}
@@ -124,9 +124,10 @@ named_tell : {X A : Type 0} (section : Section) (form : Data → Option X) (name
     → ((place : ℕ) → slice_get items place ≡ None → HasNone (Has place))
     → TellsFirst section Own Has (and_then list (each_after f []))
 named_tell section form name name_read Own Has list items f own are written entries past =
-    list_tells section Own Has list (each_after f []) own
-    (λ read is. subst (λ list. Tells ((place : ℕ) → HasNone (Has place))
-        (AtFirst (λ place. HasNone (Has place)) (λ place fault. (code : ℕ) × (fault ≡ fault_at code section place 0) × IsLeastCode (Has place) code)) (each_after f [] list)) (are read is)
+    let at = λ (place : ℕ) (code : ℕ). fault_at code section place 0 in
+    told_in_section section Own Has (and_then list (each_after f []))
+    (list_tells at Own Has list (each_after f []) own
+    (λ read is. subst (λ list. EntriesTell at Has (each_after f [] list)) (are read is)
     (after_tells f (NamesRead form name name_read items) (λ place. HasNone (Has place))
     (λ place fault. (code : ℕ) × (fault ≡ fault_at code section place 0) × IsLeastCode (Has place) code) [] items
     (no_names_read form name name_read items)
@@ -134,7 +135,7 @@ named_tell section form name name_read Own Has list items f own are written entr
         one_name_read form name name_read items place before x y entry.0 names found entry.1 entry.2)
     (λ place x before found names.
         subst (λ (n : ℕ). TellsCode (Has place) (λ code. fault_at code section n 0) (f before x)) names.long (entries place x before found names))
-    past))
+    past)))
 
 -- the objects tell their first fault
 pub objects_tell : spec.ObjectsTellFirst
@@ -367,5 +368,7 @@ no_equation objects arrows items place none code (inr (inr (inr (inr (inr has)))
 pub equations_tell : spec.EquationsTellFirst
 equations_tell objects arrows value =
     let items = spec.items_if_any value in
-    placed_tell Equations (spec.ListIfAnyHas most_equations value) (spec.EquationHas objects arrows items) (Schemas.read_list_or_none Equations most_equations value) items (Schemas.read_equation objects arrows)
-    (list_if_any_tells Equations most_equations value) (list_if_any_is Equations most_equations value) (equation_tells objects arrows items) (no_equation objects arrows items)
+    let list = Schemas.read_list_or_none Equations most_equations value in
+    told_in_section Equations (spec.ListIfAnyHas most_equations value) (spec.EquationHas objects arrows items) (and_then list (each_in (Schemas.read_equation objects arrows) 0))
+    (placed_tell (λ place code. fault_at code Equations place 0) (spec.ListIfAnyHas most_equations value) (spec.EquationHas objects arrows items) list items (Schemas.read_equation objects arrows)
+    (list_if_any_tells Equations most_equations value) (list_if_any_is Equations most_equations value) (equation_tells objects arrows items) (no_equation objects arrows items))

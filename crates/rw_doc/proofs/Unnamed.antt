@@ -1,5 +1,5 @@
 -- Names that are not there, and names that are.
-use Rattle.std.proofs.Common.{◌+◌, option_map, ◌≡◌, ◌∙◌, ◌<◌, ◌≤◌, ℕ, zero, suc, Bool, true, false, Option, Some, None, Result, Ok, Err, List, [], ◌∷◌, length, map, get_or, position, slice_get, refl, sym, ap, subst, arith}
+use Rattle.std.proofs.Common.{◌+◌, option_map, ◌≡◌, ◌∙◌, ◌<◌, ◌≤◌, ℕ, Bool, true, false, Option, Some, None, Result, Ok, Err, List, [], ◌∷◌, length, map, get_or, position, slice_get, refl, sym, ap, subst, arith}
 use Rattle.std.specs.List.{position_or_len}
 use Rattle.std.specs.Str.{bytes_eq}
 use Rattle.std.proofs.lemmas.Grind.{common_steps}

@@ -12,13 +12,11 @@ ghost use Rattle.rw_doc.specs.Instances as spec;
 use crate::ReadDocEnd;
 use crate::faults::{fault_of, refused_at};
 use crate::json::count_of;
+use crate::limits::MOST_PARTS;
 use crate::lists::{items_of, with_length};
 use rw_schema::{OutOfMemory, Schema, Section};
 use serde_json::Value;
 use std::alloc::Global;
-
-/// The greatest number of parts of an object.
-const MOST_PARTS: u64 = 1_000_000;
 
 /// The number of an object's parts.
 fn read_part_count(object: u32, value: &Value) -> Result<u32, ReadDocEnd>
@@ -27,7 +25,7 @@ fn read_part_count(object: u32, value: &Value) -> Result<u32, ReadDocEnd>
     let Some(count) = count_of(value) else {
         return Err(refused_at(2, Section::Parts, object, 0));
     };
-    if count <= MOST_PARTS {
+    if count <= MOST_PARTS as u64 {
         Ok(count as u32)
     } else {
         Err(refused_at(4, Section::Parts, object, 0))
