@@ -5,6 +5,7 @@ pub mod Faultless
 pub mod FirstEntries
 pub mod FirstFailures
 pub mod FirstLists
+pub mod InOrder
 pub mod InstanceEntries
 pub mod Listed
 pub mod Named
@@ -13,6 +14,7 @@ pub mod PartLists
 pub mod Readings
 pub mod SchemaEnds
 pub mod SchemaEntries
+pub mod SectionsInOrder
 pub mod SoundInstances
 pub mod SoundSchemas
 pub mod TextLists

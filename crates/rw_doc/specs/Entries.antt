@@ -3,7 +3,9 @@ use Rattle.std.specs.Prelude.{◌≡◌, ◌<◌, ◌⊎◌, ℕ, List, Option, 
 use Rattle.serde_json.specs.Data.{Data}
 use Rattle.rw_schema.specs.declared.section.Section.{Section}
 use Rattle.rw_doc.specs.declared.fault.DocFault.{DocFault}
+use Rattle.rw_doc.specs.declared.piece.Piece.{Piece}
 use Rattle.rw_doc.specs.Faults.{fault_at}
+use Rattle.rw_doc.specs.Pieces.{fault_in}
 
 -- What is wrong with an entry is told by its code: Has code says that the code's condition holds of the entry. It may
 -- presuppose what lesser codes and earlier entries settle, since it is looked at only where these hold of nothing.
@@ -64,6 +66,18 @@ TellsFirst section Own Has reading = Tells (IsClear Own Has)
 abbrev pub TellsFirstOfLists : {A : Type 0} → Section → (ℕ → Type 0) → (ℕ → ℕ → Type 0) → (ℕ → ℕ → ℕ → Type 0) → Result A DocFault → Type 0
 TellsFirstOfLists section Own OwnOf Has reading = Tells (AreClear Own OwnOf Has)
     (λ fault. (fault ≡ fault_at fault.code section fault.first fault.second) × IsFirstOfLists Own OwnOf Has fault.first fault.second fault.code) reading
+
+-- ---- pieces
+
+-- a piece of a document tells the least of its codes
+abbrev pub TellsLeast : {A : Type 0} → Piece → (ℕ → Type 0) → Result A DocFault → Type 0
+TellsLeast piece Has reading = Tells (HasNone Has) (λ fault. (fault ≡ fault_in piece fault.code) × IsLeastCode Has fault.code) reading
+
+-- what is read in order, section by section or piece by piece, tells the fault of the first that has one. Has place fault says
+-- that the section at the place has this fault; it may presuppose that those before have none
+abbrev pub TellsInOrder : {A : Type 0} → (ℕ → DocFault → Type 0) → Result A DocFault → Type 0
+TellsInOrder Has reading = Tells ((place : ℕ) (fault : DocFault) → Has place fault → ⊥)
+    (λ fault. (place : ℕ) × Has place fault × ((other : ℕ) → other < place → (earlier : DocFault) → Has other earlier → ⊥)) reading
 
 -- ---- what is written at a place
 

@@ -1,20 +1,22 @@
 -- What is wrong with the entries of an instance, by the codes of docs/FORMAT.md, and that its readers tell the first of it.
-use Rattle.std.specs.Prelude.{◌≡◌, ◌≢◌, ◌<◌, ◌≤◌, ◌⊎◌, ℕ, Bool, true, false, List, [], Option, Some, None, length, slice_get, slice_index, unwrap_or}
+use Rattle.std.specs.Prelude.{◌≡◌, ◌≢◌, ◌<◌, ◌≤◌, ◌⊎◌, ℕ, Bool, true, false, List, [], ◌∷◌, Option, Some, None, Ok, Err, codes, length, slice_get, slice_index, unwrap_or}
 use Rattle.serde_json.specs.Data.{Data}
-use Rattle.serde_json.specs.Find.{as_str}
+use Rattle.serde_json.specs.Find.{as_str, get}
 use Rattle.rw_schema.specs.declared.atom.Atom.{Atom}
 use Rattle.rw_schema.specs.declared.parts.Equation as equations
-use Rattle.rw_schema.specs.declared.section.Section.TheVariants.{Parts, Rows, Cells, Equation}
+use Rattle.rw_schema.specs.declared.section.Section.TheVariants.{Instance, Parts, Rows, Cells, Equation}
 use Rattle.rw_schema.specs.declared.signature.AttrEnds.{AttrEnds}
 use Rattle.rw_schema.specs.Atoms.{is_of_kind}
 use Rattle.rw_schema.specs.Signature.{Signature, source_of, holder_of}
 use Rattle.rw_spec.specs.Ends.{target_of}
 use Rattle.rw_spec.specs.Instance as instances
-use Rattle.rw_doc.specs.Entries.{TellsFirst, TellsFirstOfLists, HasOtherForm, IsWritten, form_at, no_code}
-use Rattle.rw_doc.specs.Instances.{lists_or_none, read_parts, read_rows, read_cells, rows_of, with_equations}
+use Rattle.rw_doc.specs.declared.fault.DocFault.{DocFault}
+use Rattle.rw_doc.specs.Faults.{fault_of}
+use Rattle.rw_doc.specs.Entries.{TellsFirst, TellsFirstOfLists, TellsInOrder, HasOtherForm, IsWritten, form_at, no_code}
+use Rattle.rw_doc.specs.Instances.{instance_keys, read_instance, lists_or_none, read_parts, read_rows, read_cells, rows_of, with_equations}
 use Rattle.rw_doc.specs.Json.{as_list, as_count, atom_of, is_null}
 use Rattle.rw_doc.specs.Limits.{most_parts, longest_text}
-use Rattle.rw_doc.specs.SchemaEntries.{items_in}
+use Rattle.rw_doc.specs.SchemaEntries.{items_in, member_at, HasOtherKeys}
 
 -- there is no list, or one of another length
 abbrev pub IsNoListOf : ℕ → Option (List Data) → Type 0
@@ -109,3 +111,32 @@ abbrev pub FailuresTellFirst : Type 0
 FailuresTellFirst = (C : Signature) (parts : List ℕ) (arrows : List (List ℕ)) (cells : List (List (Option Atom)))
     → TellsFirstOfLists Equation no_code (λ place. no_code) (EquationFailsAt C parts (instances.instance_of C (rows_of parts arrows cells)))
       (with_equations C (rows_of parts arrows cells))
+
+-- ---- the whole
+
+-- the numbers of parts of the instance are these
+abbrev pub HasParts : Signature → Data → List ℕ → Type 0
+HasParts C value parts = read_parts C (member_at (codes "parts") value) ≡ Ok parts
+
+-- its rows are these, over the numbers of parts
+abbrev pub HasRows : Signature → Data → List ℕ → List (List ℕ) → Type 0
+HasRows C value parts arrows = read_rows C parts (member_at (codes "rows") value) ≡ Ok arrows
+
+-- its cells are these
+abbrev pub HasCells : Signature → Bool → Data → List ℕ → List (List (Option Atom)) → Type 0
+HasCells C blanks value parts cells = read_cells C blanks parts (get (codes "cells") value) ≡ Ok cells
+
+-- the faults of an instance's sections, in the order of docs/FORMAT.md: its own keys, the numbers of parts, the rows, the
+-- cells, the equations
+abbrev pub InstanceHas : Signature → Bool → Data → ℕ → DocFault → Type 0
+InstanceHas C blanks value place fault =
+    (place ≡ 0) × ((fault ≡ fault_of 2 Instance) × HasOtherKeys instance_keys (codes "parts" ∷ codes "rows" ∷ []) value)
+    ⊎ (place ≡ 1) × (read_parts C (member_at (codes "parts") value) ≡ Err fault)
+    ⊎ (place ≡ 2) × ((parts : List ℕ) × HasParts C value parts × (read_rows C parts (member_at (codes "rows") value) ≡ Err fault))
+    ⊎ (place ≡ 3) × ((parts : List ℕ) × HasParts C value parts × (read_cells C blanks parts (get (codes "cells") value) ≡ Err fault))
+    ⊎ (place ≡ 4) × ((parts : List ℕ) × (arrows : List (List ℕ)) × (cells : List (List (Option Atom))) × HasParts C value parts × HasRows C value parts arrows
+        × HasCells C blanks value parts cells × (with_equations C (rows_of parts arrows cells) ≡ Err fault))
+
+-- an instance tells the fault of its first section that has one
+abbrev pub InstanceTellsFirst : Type 0
+InstanceTellsFirst = (C : Signature) (blanks : Bool) (value : Data) → TellsInOrder (InstanceHas C blanks value) (read_instance C blanks value)

@@ -1,17 +1,19 @@
 -- What is wrong with the entries of a schema, by the codes of docs/FORMAT.md, and that its readers tell the first of it.
-use Rattle.std.specs.Prelude.{◌≡◌, ◌<◌, ◌⊎◌, ℕ, false, List, [], Option, Some, None, length, map, option_and_then, unwrap_or, position, slice_get}
+use Rattle.std.specs.Prelude.{◌≡◌, ◌<◌, ◌⊎◌, ℕ, false, List, [], ◌∷◌, Option, Some, None, Ok, Err, codes, length, map, option_and_then, unwrap_or, position, slice_get}
 use Rattle.std.specs.Str.{bytes_eq}
-use Rattle.serde_json.specs.Data.{Data}
-use Rattle.serde_json.specs.Find.{as_str}
+use Rattle.serde_json.specs.Data.{Data, null}
+use Rattle.serde_json.specs.Find.{as_str, get}
 use Rattle.rw_schema.specs.declared.ids.ArrowId.{ArrowId}
 use Rattle.rw_schema.specs.declared.parts.ArrowDef.{ArrowDef}
 use Rattle.rw_schema.specs.declared.parts.Equation as parts
-use Rattle.rw_schema.specs.declared.section.Section.TheVariants.{Objects, Arrows, Attributes, Equations}
+use Rattle.rw_schema.specs.declared.section.Section.TheVariants.{Schema, Objects, Arrows, Attributes, Equations}
 use Rattle.rw_schema.specs.Limits.{most_objects, most_arrows, most_attributes, most_equations, longest_path}
 use Rattle.rw_schema.specs.SchemaFaults.{is_name, object_name, arrow_name, sides_meet}
-use Rattle.rw_doc.specs.Entries.{TellsFirst, HasOtherForm, IsWritten, RepeatsName, IsNoneOf, no_code}
-use Rattle.rw_doc.specs.Json.{as_list}
-use Rattle.rw_doc.specs.Schemas.{ArrowTexts, AttributeTexts, EquationTexts, arrow_texts, attribute_texts, equation_texts, read_objects, read_arrows, read_attributes, read_equations}
+use Rattle.rw_doc.specs.declared.fault.DocFault.{DocFault}
+use Rattle.rw_doc.specs.Faults.{fault_of}
+use Rattle.rw_doc.specs.Entries.{TellsFirst, TellsInOrder, HasOtherForm, IsWritten, RepeatsName, IsNoneOf, no_code}
+use Rattle.rw_doc.specs.Json.{as_list, has_only}
+use Rattle.rw_doc.specs.Schemas.{ArrowTexts, AttributeTexts, EquationTexts, arrow_texts, attribute_texts, equation_texts, schema_keys, read_schema, read_objects, read_arrows, read_attributes, read_equations}
 
 -- ---- lists
 
@@ -133,3 +135,41 @@ EquationHas objects arrows items place code =
 abbrev pub EquationsTellFirst : Type 0
 EquationsTellFirst = (objects : List (List ℕ)) (arrows : List ArrowDef) (value : Option Data)
     → TellsFirst Equations (ListIfAnyHas most_equations value) (EquationHas objects arrows (items_if_any value)) (read_equations objects arrows value)
+
+-- ---- the whole
+
+-- the value at a key; null where there is none
+abbrev pub member_at : List ℕ → Data → Data
+member_at key value = unwrap_or (get key value) null
+
+-- one of the keys is absent
+abbrev pub LacksOneOf : List (List ℕ) → Data → Type 0
+LacksOneOf [] value = ⊥
+LacksOneOf (key ∷ keys) value = (get key value ≡ None) ⊎ LacksOneOf keys value
+
+-- the value is no object or has another key than these, or it lacks one that it has to have
+abbrev pub HasOtherKeys : List (List ℕ) → List (List ℕ) → Data → Type 0
+HasOtherKeys known required value = (has_only known value ≡ false) ⊎ LacksOneOf required value
+
+-- the objects of the schema are these
+abbrev pub HasObjects : Data → List (List ℕ) → Type 0
+HasObjects value objects = read_objects (member_at (codes "objects") value) ≡ Ok objects
+
+-- its arrows are these, over the objects
+abbrev pub HasArrows : Data → List (List ℕ) → List ArrowDef → Type 0
+HasArrows value objects arrows = read_arrows objects (member_at (codes "arrows") value) ≡ Ok arrows
+
+-- the faults of a schema's sections, in the order of docs/FORMAT.md: its own keys, the objects, the arrows, the attributes,
+-- the equations
+abbrev pub SchemaHas : Data → ℕ → DocFault → Type 0
+SchemaHas value place fault =
+    (place ≡ 0) × ((fault ≡ fault_of 2 Schema) × HasOtherKeys schema_keys (codes "objects" ∷ codes "arrows" ∷ []) value)
+    ⊎ (place ≡ 1) × (read_objects (member_at (codes "objects") value) ≡ Err fault)
+    ⊎ (place ≡ 2) × ((objects : List (List ℕ)) × HasObjects value objects × (read_arrows objects (member_at (codes "arrows") value) ≡ Err fault))
+    ⊎ (place ≡ 3) × ((objects : List (List ℕ)) × HasObjects value objects × (read_attributes objects (get (codes "attributes") value) ≡ Err fault))
+    ⊎ (place ≡ 4) × ((objects : List (List ℕ)) × (arrows : List ArrowDef) × HasObjects value objects × HasArrows value objects arrows
+        × (read_equations objects arrows (get (codes "equations") value) ≡ Err fault))
+
+-- a schema tells the fault of its first section that has one
+abbrev pub SchemaTellsFirst : Type 0
+SchemaTellsFirst = (value : Data) → TellsInOrder (SchemaHas value) (read_schema value)

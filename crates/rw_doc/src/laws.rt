@@ -1,8 +1,8 @@
 //! Laws of the readers: the fault that a section tells is its first, and it tells none where nothing is wrong. The calls do
 //! nothing: their contracts are the laws.
 
-ghost use Rattle.rw_doc.specs.InstanceEntries.{PartsTellFirst, RowsTellFirst, CellsTellFirst, FailuresTellFirst};
-ghost use Rattle.rw_doc.specs.SchemaEntries.{ObjectsTellFirst, ArrowsTellFirst, AttributesTellFirst, EquationsTellFirst};
+ghost use Rattle.rw_doc.specs.InstanceEntries.{PartsTellFirst, RowsTellFirst, CellsTellFirst, FailuresTellFirst, InstanceTellsFirst};
+ghost use Rattle.rw_doc.specs.SchemaEntries.{ObjectsTellFirst, ArrowsTellFirst, AttributesTellFirst, EquationsTellFirst, SchemaTellsFirst};
 
 /// The fault of the objects is that of the list itself, or else the least of the first object that has one.
 pub fn objects_tell_first()
@@ -43,4 +43,16 @@ pub fn cells_tell_first()
 /// Where an equation fails, the first that does is told, at the first part at which it does.
 pub fn failures_tell_first()
     ensures { FailuresTellFirst }
+{}
+
+/// The fault of a schema is that of the first of its own keys, the objects, the arrows, the attributes and the equations that
+/// has one.
+pub fn schema_tells_first()
+    ensures { SchemaTellsFirst }
+{}
+
+/// The fault of an instance is that of the first of its own keys, the numbers of parts, the rows, the cells and the equations
+/// that has one.
+pub fn instance_tells_first()
+    ensures { InstanceTellsFirst }
 {}

@@ -28,7 +28,8 @@ pub use instance::{empty_instance, read_instance, rows_of};
 pub use json::{atom_of, count_of, has_only};
 pub use laws::{
     arrows_tell_first, attributes_tell_first, cells_tell_first, equations_tell_first,
-    failures_tell_first, objects_tell_first, parts_tell_first, rows_tell_first,
+    failures_tell_first, instance_tells_first, objects_tell_first, parts_tell_first,
+    rows_tell_first, schema_tells_first,
 };
 pub use limits::{LONGEST_TEXT, MOST_PARTS};
 pub use lists::{items_of, read_list_or_none};
