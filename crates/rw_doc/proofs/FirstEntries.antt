@@ -38,10 +38,14 @@ other_holds this Holds Others never code (inr other) = other
 pub tells_other : {A : Type 0} (this : ℕ) (Holds : Type 0) (Others : ℕ → Type 0) (at : ℕ → DocFault) (reading : Result A DocFault)
     → (Holds → ⊥) → TellsCode Others at reading → TellsCode (or_code this Holds Others) at reading
 tells_other this Holds Others at (Ok value) never tells = λ code has. tells code (other_holds this Holds Others never code has)
-tells_other this Holds Others at (Err fault) never tells = (tells.0, tells.1, record {
-  stands = inr tells.2.stands;
-  least = λ code less has. tells.2.least code less (other_holds this Holds Others never code has);
-})
+tells_other this Holds Others at (Err fault) never tells = (
+  tells.0,
+  tells.1,
+  record {
+    stands = inr tells.2.stands;
+    least = λ code less has. tells.2.least code less (other_holds this Holds Others never code has);
+  },
+)
 
 -- where it holds, its code is the least
 pub least_here : (this : ℕ) (Holds : Type 0) (Others : ℕ → Type 0) → IsBeyond this Others → Holds → IsLeastCode (or_code this Holds Others) this
@@ -73,10 +77,14 @@ tells_read this Holds Others at (Err fault) f beyond fails passes rest =
 pub tells_alone : {A : Type 0} (this : ℕ) (Holds : Type 0) (at : ℕ → DocFault) (reading : Result A DocFault)
     → TellsCode (or_code this Holds no_code) at reading → TellsCode (only_code this Holds) at reading
 tells_alone this Holds at (Ok value) tells = λ code has. tells code (inl has)
-tells_alone this Holds at (Err fault) tells = (tells.0, tells.1, record {
-  stands = alone tells.2.stands;
-  least = λ code less has. tells.2.least code less (inl has);
-})
+tells_alone this Holds at (Err fault) tells = (
+  tells.0,
+  tells.1,
+  record {
+    stands = alone tells.2.stands;
+    least = λ code less has. tells.2.least code less (inl has);
+  },
+)
   where
     alone : or_code this Holds no_code tells.0 → only_code this Holds tells.0
     alone (inl here) = here

@@ -1,10 +1,10 @@
 -- The first fault of lists of lists.
-use Rattle.std.proofs.Common.{◌≡◌, ◌<◌, ◌+◌, ◌⊎◌, inl, inr, ℕ, Bool, true, false, Option, Some, None, Result, Ok, Err, List, [], ◌∷◌, slice_get, refl, sym, ap, subst, zero-add}
-use Rattle.rw_schema.specs.First.{first_in, fault_unless, or_else}
+use Rattle.std.proofs.Common.{◌≡◌, ◌+◌, inl, inr, ℕ, Option, Some, None, Result, Ok, Err, List, [], ◌∷◌, slice_get, refl, sym, ap, subst, zero-add}
+use Rattle.rw_schema.specs.First.{first_in, or_else}
 use Rattle.rw_schema.specs.declared.section.Section.{Section}
 use Rattle.rw_doc.specs.declared.fault.DocFault.{DocFault}
 use Rattle.rw_doc.specs.Chain.{and_then, each_in, unfaulted}
-use Rattle.rw_doc.specs.Entries.{IsLeastCode, HasNone, IsClear, IsFirstOfList, AreClear, IsFirstList, IsFirstOfLists, Tells, TellsFirstOfLists}
+use Rattle.rw_doc.specs.Entries.{HasNone, IsClear, IsFirstOfList, IsFirstOfLists, Tells, TellsFirstOfLists}
 use Rattle.rw_doc.specs.Faults.{fault_at}
 use Rattle.rw_doc.proofs.FirstEntries.{TellsCode, TellsFirstAt, AtFirst, each_tells}
 
@@ -23,7 +23,7 @@ told_in_list section list Own Has (Err fault) tells =
 -- the first fault of the lists is that of the section
 pub lists_told : {A : Type 0} (section : Section) (Own : ℕ → Type 0) (OwnOf : ℕ → ℕ → Type 0) (Has : ℕ → ℕ → ℕ → Type 0) (reading : Result A DocFault) → HasNone Own
     → Tells ((list : ℕ) → IsClear (OwnOf list) (Has list)) (AtFirst (λ list. IsClear (OwnOf list) (Has list))
-        (λ list fault. (fault ≡ fault_at fault.code section list fault.second) × IsFirstOfList (OwnOf list) (Has list) fault.second fault.code)) reading
+    (λ list fault. (fault ≡ fault_at fault.code section list fault.second) × IsFirstOfList (OwnOf list) (Has list) fault.second fault.code)) reading
     → TellsFirstOfLists section Own OwnOf Has reading
 lists_told section Own OwnOf Has (Ok value) own tells = record { own = own; lists = tells }
 lists_told section Own OwnOf Has (Err fault) own tells =
@@ -42,7 +42,7 @@ pub lists_tell : {X A : Type 0} (section : Section) (Own : ℕ → Type 0) (OwnO
 lists_tell section Own OwnOf Has (Ok read) items f own are entries past =
     lists_told section Own OwnOf Has (each_in f 0 read) own
     (subst (λ list. Tells ((list : ℕ) → IsClear (OwnOf list) (Has list)) (AtFirst (λ list. IsClear (OwnOf list) (Has list))
-        (λ list fault. (fault ≡ fault_at fault.code section list fault.second) × IsFirstOfList (OwnOf list) (Has list) fault.second fault.code)) (each_in f 0 list)) (are read refl)
+    (λ list fault. (fault ≡ fault_at fault.code section list fault.second) × IsFirstOfList (OwnOf list) (Has list) fault.second fault.code)) (each_in f 0 list)) (are read refl)
     (each_tells f (λ list. IsClear (OwnOf list) (Has list))
     (λ list fault. (fault ≡ fault_at fault.code section list fault.second) × IsFirstOfList (OwnOf list) (Has list) fault.second fault.code) 0 items
     (λ place x found. rw (zero-add place) (entries place x found)) past))

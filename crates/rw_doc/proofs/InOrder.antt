@@ -1,5 +1,5 @@
 -- Sections and pieces that are read one after the other.
-use Rattle.std.proofs.Common.{◌≡◌, ◌∙◌, ◌<◌, ◌≤◌, ◌⊎◌, inl, inr, ℕ, Bool, true, false, Option, Some, None, Result, Ok, Err, refl, sym, arith}
+use Rattle.std.proofs.Common.{◌≡◌, ◌<◌, ◌≤◌, ◌⊎◌, inl, inr, ℕ, Bool, true, false, Option, Some, None, Result, Ok, Err, refl, arith}
 use Rattle.serde_json.specs.Data.{Data}
 use Rattle.rw_doc.specs.declared.fault.DocFault.{DocFault}
 use Rattle.rw_doc.specs.Chain.{and_then, some_or, checked}
@@ -67,7 +67,7 @@ pub order_keys : {A : Type 0} (fault : DocFault) (OtherKeys : Type 0) (Others : 
     → ((x y : Data) → known ≡ true → first ≡ Some x → second ≡ Some y → OtherKeys → ⊥)
     → ((x y : Data) → first ≡ Some x → second ≡ Some y → TellsInOrder Others (rest x y))
     → TellsInOrder (or_place 0 (λ given. (given ≡ fault) × OtherKeys) Others)
-      (checked fault known (and_then (some_or fault first) (λ x. and_then (some_or fault second) (λ y. rest x y))))
+    (checked fault known (and_then (some_or fault first) (λ x. and_then (some_or fault second) (λ y. rest x y))))
 order_keys {A = A} fault OtherKeys Others false first second rest unknown no_first no_second all sections =
     order_here A 0 (λ (given : DocFault). (given ≡ fault) × OtherKeys) Others fault (λ place given has. omega arith) (refl, unknown refl)
 order_keys {A = A} fault OtherKeys Others true None second rest unknown no_first no_second all sections =

@@ -1,7 +1,7 @@
 -- The readers of an instance's sections tell the first fault.
-use Rattle.std.proofs.Common.{◌≡◌, ◌≢◌, ◌∙◌, ◌<◌, ◌≤◌, ◌+◌, ◌⊎◌, ◌==◌, inl, inr, ℕ, ℤ, zero, suc, Bool, true, false, not, Option, Some, None, Result, Ok, Err, List, [], ◌∷◌, length, map, nat_le, nat_lt, if◌then◌else◌, unwrap_or, option_and_then, option_map, slice_get, slice_index, refl, sym, ap, subst, arith}
+use Rattle.std.proofs.Common.{◌≡◌, ◌≢◌, ◌∙◌, ◌<◌, ◌≤◌, ◌+◌, ◌==◌, inl, inr, ℕ, ℤ, zero, suc, Bool, true, false, Option, Some, None, Result, Ok, Err, List, [], length, nat_le, nat_lt, if◌then◌else◌, unwrap_or, option_map, slice_get, slice_index, refl, sym, ap, subst, arith}
 use Rattle.std.specs.List.{range_with_len}
-use Rattle.std.proofs.lemmas.Bool.{eqb-true, eq-eqb, ltb-true, leb-true, cases_Bool}
+use Rattle.std.proofs.lemmas.Bool.{eqb-true, eq-eqb, ltb-true, leb-true}
 use Rattle.std.proofs.lemmas.Option.{same_Some}
 use Rattle.serde_json.specs.Data.{Data}
 use Rattle.serde_json.specs.Data as json
@@ -20,15 +20,15 @@ use Rattle.rw_spec.specs.Instance as instances
 use Rattle.rw_spec.specs.Tabled.{Tabled}
 use Rattle.rw_doc.specs.declared.fault.DocFault.{DocFault}
 use Rattle.rw_doc.specs.Chain.{and_then, each_in, some_or, checked, unfaulted}
-use Rattle.rw_doc.specs.Entries.{Tells, HasNone, IsLeastCode, IsClear, IsFirstOfList, IsFirstEntry, no_code, HasOtherForm, IsWritten, form_at}
+use Rattle.rw_doc.specs.Entries.{HasNone, IsLeastCode, IsClear, IsFirstOfList, no_code, HasOtherForm, IsWritten, form_at}
 use Rattle.rw_doc.specs.Faults.{fault_at, fault_of}
 use Rattle.rw_doc.specs.InstanceEntries as spec
 use Rattle.rw_doc.specs.Instances as chains
 use Rattle.rw_doc.specs.Json.{as_list, as_count, atom_of, is_null, is_short}
 use Rattle.rw_doc.specs.Limits.{most_parts, longest_text}
 use Rattle.rw_doc.specs.SchemaEntries.{items_in}
-use Rattle.rw_doc.proofs.Chains.{chain, checked_then, there}
-use Rattle.rw_doc.proofs.FirstEntries.{TellsCode, TellsFirstAt, AtFirst, tells_other, entries_told, or_code, only_code, tells_alone, tells_checked, tells_some, placed_tell, told_in_section}
+use Rattle.rw_doc.proofs.Chains.{checked_then}
+use Rattle.rw_doc.proofs.FirstEntries.{TellsCode, entries_told, only_code, tells_alone, tells_checked, tells_some, placed_tell, told_in_section}
 use Rattle.rw_doc.proofs.FirstLists.{TellsInList, told_in_list, lists_told, lists_tell, first_tells}
 use Rattle.rw_doc.proofs.PartLists.{names_at}
 use Rattle.rw_doc.proofs.Written.{written_at, written_is, no_other_form, nothing_written, nothing_of_other_form, never_both, many}
@@ -71,7 +71,7 @@ part_count_tells items object value found =
     (tells_checked 4 over no_code at (nat_le count most_parts) (Ok count) (λ code has. absurd has)
     (λ fails. (count, here, many count most_parts fails))
     (λ passes holds. let few : count ≤ most_parts = leb-true count most_parts passes in
-        let more : most_parts < count = written_is as_count items object count (λ count. most_parts < count) here holds in omega arith)
+    let more : most_parts < count = written_is as_count items object count (λ count. most_parts < count) here holds in omega arith)
     (λ passes code never. never)))
 
 -- where there is no number, nothing is wrong
@@ -100,13 +100,18 @@ list_length_tells count items place value section found =
   where
     back : spec.HasNoListOf count items place → spec.IsNoListOf count (as_list value)
     back other = subst (λ value. spec.IsNoListOf count (as_list value)) (same_Some other.0 value (sym other.1 ∙ found)) other.2
+
     moved : (reading : Result (List Data) DocFault) → TellsCode (only_code 2 (spec.IsNoListOf count (as_list value))) (λ code. fault_at code section place 0) reading
         → TellsCode (only_code 2 (spec.HasNoListOf count items place)) (λ code. fault_at code section place 0) reading
     moved (Ok read) tells = λ code has. tells code (has.0, back has.1)
-    moved (Err fault) tells = (tells.0, tells.1, record {
-      stands = (tells.2.stands.0, (value, found, tells.2.stands.1));
-      least = λ code less has. tells.2.least code less (has.0, back has.1);
-    })
+    moved (Err fault) tells = (
+      tells.0,
+      tells.1,
+      record {
+        stands = (tells.2.stands.0, (value, found, tells.2.stands.1));
+        least = λ code less has. tells.2.least code less (has.0, back has.1);
+      },
+    )
 
 -- the items of the list at a place
 list_in_is : (items : List Data) (place : ℕ) (value : Data) → slice_get items place ≡ Some value → spec.list_in items place ≡ unwrap_or (as_list value) []
@@ -157,7 +162,7 @@ image_tells C parts items arrow position value found =
     (tells_checked 8 past no_code at (nat_lt image targets) (Ok image) (λ code has. absurd has)
     (λ fails. (image, here, not_less image targets fails))
     (λ passes holds. let below : image < targets = ltb-true image targets passes in
-        let more : targets ≤ image = written_is as_count list position image (λ image. targets ≤ image) here holds in omega arith)
+    let more : targets ≤ image = written_is as_count list position image (λ image. targets ≤ image) here holds in omega arith)
     (λ passes code never. never)))
   where
     not_less : (image targets : ℕ) → nat_lt image targets ≡ false → targets ≤ image
@@ -176,7 +181,7 @@ rows_tell C parts value =
     lists_tell Rows (spec.RowsHave C value) (spec.RowHas C parts items) (spec.ImageHas C parts items) (chains.with_length (fault_of 2 Rows) (length C.arrows) (as_list value)) items (chains.read_row C parts)
     (length_tells (fault_of 2 Rows) (λ code. fault_at code Rows 0 0) (length C.arrows) (as_list value) refl) (length_is (fault_of 2 Rows) (length C.arrows) (as_list value))
     (λ arrow row found. list_at_tells Rows (slice_index parts (source_of C arrow)) items arrow row (spec.ImageHas C parts items arrow) (chains.read_image (slice_index parts (target_of C arrow)) arrow)
-        found (image_tells C parts items arrow) (no_image C parts items arrow))
+    found (image_tells C parts items arrow) (no_image C parts items arrow))
     (λ arrow none. no_list_at (slice_index parts (source_of C arrow)) items arrow (spec.ImageHas C parts items arrow) none (no_image C parts items arrow))
 
 -- ---- cells
@@ -244,14 +249,17 @@ no_long_text list position value found short long =
 refused_cell : (C : Signature) (blanks : Bool) (items : List Data) (attribute position : ℕ) (value : Data) → slice_get (spec.list_in items attribute) position ≡ Some value
     → (spec.IsCellOf C blanks attribute value → ⊥) → (HasLongText (spec.list_in items attribute) position → ⊥)
     → TellsCode {A = Option Atom} (spec.CellHas C blanks items attribute position) (λ code. fault_at code Cells attribute position) (Err (fault_at 9 Cells attribute position))
-refused_cell C blanks items attribute position value found no_cell short =
-    (9, refl, record {
-      stands = inr (refl, (value, found, no_cell));
-      least = λ code less has. elim has [
-          | inl long ↦ absurd (short long.1)
-          | inr other ↦ (let same : code ≡ 9 = other.0 in omega arith)
-        ];
-    })
+refused_cell C blanks items attribute position value found no_cell short = (
+  9,
+  refl,
+  record {
+    stands = inr (refl, (value, found, no_cell));
+    least = λ code less has. elim has [
+      | inl long ↦ absurd (short long.1)
+      | inr other ↦ (let same : code ≡ 9 = other.0 in omega arith)
+    ];
+  },
+)
 
 -- with one that may, nothing is wrong
 taken_cell : (C : Signature) (blanks : Bool) (items : List Data) (attribute position : ℕ) (value : Data) → slice_get (spec.list_in items attribute) position ≡ Some value
@@ -298,27 +306,30 @@ short_tells C blanks items attribute position value atom false found no_null is 
 atom_tells : (C : Signature) (blanks : Bool) (items : List Data) (attribute position : ℕ) (value : Data) (atom : Atom) (short : Bool)
     → slice_get (spec.list_in items attribute) position ≡ Some value → is_null value ≡ false → atom_of value ≡ Some atom → is_short atom ≡ short
     → TellsCode {A = Option Atom} (spec.CellHas C blanks items attribute position) (λ code. fault_at code Cells attribute position)
-      (checked (fault_at 4 Cells attribute position) short (checked (fault_at 9 Cells attribute position) (chains.is_of_attribute (slice_get C.attributes attribute) atom) (Ok (Some atom))))
+    (checked (fault_at 4 Cells attribute position) short (checked (fault_at 9 Cells attribute position) (chains.is_of_attribute (slice_get C.attributes attribute) atom) (Ok (Some atom))))
 atom_tells C blanks items attribute position value atom true found no_null is short =
     short_tells C blanks items attribute position value atom (chains.is_of_attribute (slice_get C.attributes attribute) atom) found no_null is short refl
 atom_tells C blanks items attribute position value atom false found no_null is short =
     let list = spec.list_in items attribute in
-    let text = long_atom value atom is short in
-    (4, refl, record {
-      stands = inl (refl, (text.0, written_at as_str list position value text.0 found text.1, text.2));
-      least = λ code less has. elim has [
+    let text = long_atom value atom is short in (
+      4,
+      refl,
+      record {
+        stands = inl (refl, (text.0, written_at as_str list position value text.0 found text.1, text.2));
+        least = λ code less has. elim has [
           | inl long ↦ (let same : code ≡ 4 = long.0 in omega arith)
           | inr other ↦ (let same : code ≡ 9 = other.0 in omega arith)
         ];
-    })
+      },
+    )
 
 -- what is no blank
 value_tells : (C : Signature) (blanks : Bool) (items : List Data) (attribute position : ℕ) (value : Data) (atom : Option Atom)
     → slice_get (spec.list_in items attribute) position ≡ Some value → is_null value ≡ false → atom_of value ≡ atom
     → TellsCode {A = Option Atom} (spec.CellHas C blanks items attribute position) (λ code. fault_at code Cells attribute position)
-      (and_then (some_or (fault_at 9 Cells attribute position) atom) (λ atom.
-      checked (fault_at 4 Cells attribute position) (is_short atom)
-      (checked (fault_at 9 Cells attribute position) (chains.is_of_attribute (slice_get C.attributes attribute) atom) (Ok (Some atom)))))
+    (and_then (some_or (fault_at 9 Cells attribute position) atom) (λ atom.
+    checked (fault_at 4 Cells attribute position) (is_short atom)
+    (checked (fault_at 9 Cells attribute position) (chains.is_of_attribute (slice_get C.attributes attribute) atom) (Ok (Some atom)))))
 value_tells C blanks items attribute position value (Some atom) found no_null is = atom_tells C blanks items attribute position value atom (is_short atom) found no_null is refl
 value_tells C blanks items attribute position value None found no_null is =
     refused_cell C blanks items attribute position value found
@@ -332,10 +343,10 @@ cell_tells C blanks items attribute position value found = by_null (is_null valu
   where
     by_null : (blank : Bool) → is_null value ≡ blank
         → TellsCode (spec.CellHas C blanks items attribute position) (λ code. fault_at code Cells attribute position)
-          (if blank then checked (fault_at 9 Cells attribute position) blanks (Ok None)
-          else and_then (some_or (fault_at 9 Cells attribute position) (atom_of value)) (λ atom.
-          checked (fault_at 4 Cells attribute position) (is_short atom)
-          (checked (fault_at 9 Cells attribute position) (chains.is_of_attribute (slice_get C.attributes attribute) atom) (Ok (Some atom)))))
+        (if blank then checked (fault_at 9 Cells attribute position) blanks (Ok None)
+        else and_then (some_or (fault_at 9 Cells attribute position) (atom_of value)) (λ atom.
+        checked (fault_at 4 Cells attribute position) (is_short atom)
+        (checked (fault_at 9 Cells attribute position) (chains.is_of_attribute (slice_get C.attributes attribute) atom) (Ok (Some atom)))))
     by_null true is = null_tells C blanks items attribute position value found is
     by_null false is = value_tells C blanks items attribute position value (atom_of value) found is refl
 
@@ -354,7 +365,7 @@ cells_tell C blanks parts value =
     (length_tells (fault_of 2 Cells) (λ code. fault_at code Cells 0 0) (length C.attributes) (chains.lists_or_none value) refl)
     (length_is (fault_of 2 Cells) (length C.attributes) (chains.lists_or_none value))
     (λ attribute list found. list_at_tells Cells (slice_index parts (holder_of C attribute)) items attribute list (spec.CellHas C blanks items attribute) (chains.read_cell C blanks attribute)
-        found (cell_tells C blanks items attribute) (no_cell C blanks items attribute))
+    found (cell_tells C blanks items attribute) (no_cell C blanks items attribute))
     (λ attribute none. no_list_at (slice_index parts (holder_of C attribute)) items attribute (spec.CellHas C blanks items attribute) none (no_cell C blanks items attribute))
 
 -- ---- equations
@@ -382,11 +393,18 @@ part_tells C parts X place part x equation true found is within agrees = λ code
     let same : equation ≡ has.1.0 = same_Some equation has.1.0 (sym found ∙ has.1.1) in
     let equal : instances.follow X equation.left x ≡ instances.follow X equation.right x = eqb-true (instances.follow X equation.left x) (instances.follow X equation.right x) agrees in
     has.1.3 (subst (λ (e : equations.Equation). instances.follow X e.left part ≡ instances.follow X e.right part) same
-        (subst (λ (n : ℕ). instances.follow X equation.left n ≡ instances.follow X equation.right n) is equal))
-part_tells C parts X place part x equation false found is within agrees =
-    (10, ap (λ n. fault_at 10 Equation place n) is,
-    its_code 10 _ (equation, found, within, λ same. other_length (instances.follow X equation.left x) (instances.follow X equation.right x) agrees
-        (subst (λ (n : ℕ). instances.follow X equation.left n ≡ instances.follow X equation.right n) (sym is) same)))
+    (subst (λ (n : ℕ). instances.follow X equation.left n ≡ instances.follow X equation.right n) is equal))
+part_tells C parts X place part x equation false found is within agrees = (
+  10,
+  ap (λ n. fault_at 10 Equation place n) is,
+  its_code 10 _ (
+    equation,
+    found,
+    within,
+    λ same. other_length (instances.follow X equation.left x) (instances.follow X equation.right x) agrees
+        (subst (λ (n : ℕ). instances.follow X equation.left n ≡ instances.follow X equation.right n) (sym is) same),
+  ),
+)
 
 -- a part that is not there
 no_part : (C : Signature) (parts : List ℕ) (X : instances.Instance) (place part : ℕ) (equation : equations.Equation) → slice_get C.equations place ≡ Some equation
@@ -400,7 +418,7 @@ no_part C parts X place part equation found past code has =
 failures_tell : (C : Signature) (parts : List ℕ) (arrows : List (List ℕ)) (cells : List (List (Option Atom))) (place : ℕ) (equation : equations.Equation)
     → slice_get C.equations place ≡ Some equation
     → let X = instances.instance_of C (chains.rows_of parts arrows cells) in
-      TellsInList {A = equations.Equation} Equation place no_code (spec.EquationFailsAt C parts X place) (unfaulted (chains.failure_at X place equation) equation)
+    TellsInList {A = equations.Equation} Equation place no_code (spec.EquationFailsAt C parts X place) (unfaulted (chains.failure_at X place equation) equation)
 failures_tell C parts arrows cells place equation found =
     let X = instances.instance_of C (chains.rows_of parts arrows cells) in
     let count = slice_index parts equation.object.0 in
@@ -411,8 +429,8 @@ failures_tell C parts arrows cells place equation found =
     (first_tells f (λ part. HasNone (spec.EquationFailsAt C parts X place part))
     (λ part fault. (code : ℕ) × (fault ≡ fault_at code Equation place part) × IsLeastCode (spec.EquationFailsAt C parts X place part) code) (X.names equation.object.0) equation
     (λ part x there. let at_place = range_at 0 count part x (rw (names_at parts equation.object.0) at there) in
-        let is : x ≡ part = let same = at_place.0 in omega arith in
-        part_tells C parts X place part x equation (instances.agrees_at X equation x) found is at_place.1 refl)
+    let is : x ≡ part = let same = at_place.0 in omega arith in
+    part_tells C parts X place part x equation (instances.agrees_at X equation x) found is at_place.1 refl)
     (λ part none. no_part C parts X place part equation found (range_past 0 count part (rw (names_at parts equation.object.0) at none)))))
 
 -- the equations tell where the first fails

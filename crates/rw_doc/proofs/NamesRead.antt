@@ -53,18 +53,18 @@ one_name_read form name name_read items place read value y entry names found is 
 any_at : {A : Type 0} (h : A → List ℕ) (n : List ℕ) (xs : List A) → list_any (λ x. bytes_eq n (h x)) xs ≡ true → (place : ℕ) × (slice_get (map h xs) place ≡ Some n)
 any_at h n [] any = absurd (let never : ⊥ = cc in never)
 any_at h n (x ∷ xs) any = elim (cases_Bool (bytes_eq n (h x))) [
-    | inl same ↦ (0, ap (λ m. Some m) (sym ((bytes_eq-Decides n (h x)).0 same)))
-    | inr other ↦ let later = any_at h n xs (rw other at any) in (suc later.0, later.1)
-  ]
+  | inl same ↦ (0, ap (λ m. Some m) (sym ((bytes_eq-Decides n (h x)).0 same)))
+  | inr other ↦ let later = any_at h n xs (rw other at any) in (suc later.0, later.1)
+]
 
 -- a name that stands at a place, one of the list has
 any_from : {A : Type 0} (h : A → List ℕ) (n : List ℕ) (xs : List A) (place : ℕ) → slice_get (map h xs) place ≡ Some n → list_any (λ x. bytes_eq n (h x)) xs ≡ true
 any_from h n [] place found = absurd (let never : ⊥ = cc in never)
 any_from h n (x ∷ xs) zero found = rw ((bytes_eq-Decides n (h x)).1 (sym (same_Some (h x) n found))) refl
 any_from h n (x ∷ xs) (suc place) found = elim (cases_Bool (bytes_eq n (h x))) [
-    | inl same ↦ rw same refl
-    | inr other ↦ rw other (any_from h n xs place found)
-  ]
+  | inl same ↦ rw same refl
+  | inr other ↦ rw other (any_from h n xs place found)
+]
 
 -- what is mapped to something is something
 mapped_some : {X : Type 0} (name : X → List ℕ) (n : List ℕ) (o : Option X) → option_map name o ≡ Some n → (x : X) × (o ≡ Some x) × (name x ≡ n)
@@ -87,6 +87,6 @@ pub is_repeated : {X A : Type 0} (form : Data → Option X) (name : X → List �
     → NamesRead form name name_read items place read → not (list_any (λ y. bytes_eq (name entry) (name_read y)) read) ≡ true → RepeatsName form name items place entry → ⊥
 is_repeated form name name_read items place read entry names passes repeats =
     let found : slice_get (map name_read read) repeats.0 ≡ Some (name entry) =
-        sym (names.names repeats.0 repeats.1) ∙ ap (option_map name) repeats.3 ∙ ap (λ n. Some n) repeats.4 in
+    sym (names.names repeats.0 repeats.1) ∙ ap (option_map name) repeats.3 ∙ ap (λ n. Some n) repeats.4 in
     let any : list_any (λ y. bytes_eq (name entry) (name_read y)) read ≡ true = any_from name_read (name entry) read repeats.0 found in
     cc

@@ -17,7 +17,7 @@ use Rattle.rw_schema.specs.Limits.{most_objects, most_arrows, most_attributes, m
 use Rattle.rw_schema.specs.SchemaFaults.{is_name, object_name, arrow_name, attribute_name, sides_meet}
 use Rattle.rw_doc.specs.declared.fault.DocFault.{DocFault}
 use Rattle.rw_doc.specs.Chain.{and_then, each_in, each_after, some_or, checked}
-use Rattle.rw_doc.specs.Entries.{Tells, TellsFirst, HasNone, IsLeastCode, no_code, HasOtherForm, IsWritten, RepeatsName, IsNoneOf, form_at}
+use Rattle.rw_doc.specs.Entries.{TellsFirst, HasNone, IsLeastCode, no_code, HasOtherForm, IsWritten, RepeatsName, IsNoneOf, form_at}
 use Rattle.rw_doc.specs.Faults.{fault_at, fault_of}
 use Rattle.rw_doc.specs.Json.{as_list}
 use Rattle.rw_doc.specs.SchemaEntries as spec
@@ -105,7 +105,7 @@ object_tells items place value before found names =
     (tells_checked 5 twice no_code at (not (list_any (bytes_eq text) before)) (Ok text) (λ code has. absurd has)
     (λ fails. (text, written, name_repeats as_str object_name object_name items place before text names fails))
     (λ passes holds. is_repeated as_str object_name object_name items place before text names passes
-        (written_is as_str items place text (RepeatsName as_str object_name items place) written holds))
+    (written_is as_str items place text (RepeatsName as_str object_name items place) written holds))
     (λ passes code never. never))))
 
 -- where there is no object, nothing is wrong
@@ -120,7 +120,7 @@ named_tell : {X A : Type 0} (section : Section) (form : Data → Option X) (name
     → TellsCode Own (λ code. fault_at code section 0 0) list → ((read : List Data) → list ≡ Ok read → items ≡ read)
     → ((before : List A) (value : Data) (y : A) → f before value ≡ Ok y → (entry : X) × (form value ≡ Some entry) × (name entry ≡ name_read y))
     → ((place : ℕ) (value : Data) (before : List A) → slice_get items place ≡ Some value → NamesRead form name name_read items place before
-        → TellsCode (Has place) (λ code. fault_at code section (length before) 0) (f before value))
+    → TellsCode (Has place) (λ code. fault_at code section (length before) 0) (f before value))
     → ((place : ℕ) → slice_get items place ≡ None → HasNone (Has place))
     → TellsFirst section Own Has (and_then list (each_after f []))
 named_tell section form name name_read Own Has list items f own are written entries past =
@@ -132,9 +132,9 @@ named_tell section form name name_read Own Has list items f own are written entr
     (λ place fault. (code : ℕ) × (fault ≡ fault_at code section place 0) × IsLeastCode (Has place) code) [] items
     (no_names_read form name name_read items)
     (λ place x before y found names here. let entry = written before x y here in
-        one_name_read form name name_read items place before x y entry.0 names found entry.1 entry.2)
+    one_name_read form name name_read items place before x y entry.0 names found entry.1 entry.2)
     (λ place x before found names.
-        subst (λ (n : ℕ). TellsCode (Has place) (λ code. fault_at code section n 0) (f before x)) names.long (entries place x before found names))
+    subst (λ (n : ℕ). TellsCode (Has place) (λ code. fault_at code section n 0) (f before x)) names.long (entries place x before found names))
     past)))
 
 -- the objects tell their first fault
@@ -184,7 +184,7 @@ arrow_tells objects items place value before found names =
     (λ named. tells_checked 5 twice (or_code 6 no_source (only_code 6 no_target)) at (not (list_any (λ (arrow : ArrowDef). bytes_eq texts.name arrow.name) before)) _ (λ code has. omega (arith, has))
     (λ fails. (texts, here, name_repeats form spec.written_arrow arrow_name items place before texts names fails))
     (λ passes holds. is_repeated form spec.written_arrow arrow_name items place before texts names passes
-        (written_is form items place texts (RepeatsName form spec.written_arrow items place) here holds))
+    (written_is form items place texts (RepeatsName form spec.written_arrow items place) here holds))
     (λ apart. tells_read 6 no_source (only_code 6 no_target) at (Schemas.object_named (at 6) objects texts.source) _ (λ code has. omega (arith, has.0))
     (λ fault is. let unknown = object_unknown (at 6) objects texts.source fault is in (unknown.0, (texts, here, unknown.1)))
     (λ source is holds. object_there (at 6) objects texts.source source is (written_is form items place texts (λ texts. IsNoneOf objects texts.source) here holds))
@@ -247,7 +247,7 @@ attribute_tells objects items place value before found names =
     (λ named. tells_checked 5 twice (only_code 6 no_object) at (not (list_any (λ (attribute : AttrDef). bytes_eq texts.name attribute.name) before)) _ (λ code has. omega (arith, has.0))
     (λ fails. (texts, here, name_repeats form spec.written_attribute attribute_name items place before texts names fails))
     (λ passes holds. is_repeated form spec.written_attribute attribute_name items place before texts names passes
-        (written_is form items place texts (RepeatsName form spec.written_attribute items place) here holds))
+    (written_is form items place texts (RepeatsName form spec.written_attribute items place) here holds))
     (λ apart. tells_alone 6 no_object at _
     (tells_read 6 no_object no_code at (Schemas.object_named (at 6) objects texts.object) (λ object. Ok (record { name = texts.name; object = object; kind = texts.kind })) (λ code has. absurd has)
     (λ fault is. let unknown = object_unknown (at 6) objects texts.object fault is in (unknown.0, (texts, here, unknown.1)))
@@ -279,9 +279,9 @@ HasLongPath texts = (longest_path < length texts.left) ⊎ (longest_path < lengt
 -- where the test of the lengths fails, a path is too long
 too_long : (texts : EquationTexts) → Schemas.has_short_paths texts ≡ false → HasLongPath texts
 too_long texts fails = elim (cases_Bool (nat_le (length texts.left) longest_path)) [
-    | inl short ↦ inr (many (length texts.right) longest_path (rw short at fails))
-    | inr long ↦ inl (many (length texts.left) longest_path long)
-  ]
+  | inl short ↦ inr (many (length texts.right) longest_path (rw short at fails))
+  | inr long ↦ inl (many (length texts.left) longest_path long)
+]
 
 -- where it passes, none is
 not_too_long : (texts : EquationTexts) → Schemas.has_short_paths texts ≡ true → HasLongPath texts → ⊥
@@ -349,8 +349,8 @@ equation_tells objects arrows items place value found =
     (tells_checked 7 apart no_code at (sides_meet arrows equation) (Ok equation) (λ code has. absurd has)
     (λ fails. (texts, here, (equation, is_of, fails)))
     (λ passes holds. let other = written_is form items place texts (MeetsNowhere objects arrows) here holds in
-        let same : other.0 ≡ equation = same_equation objects arrows texts other.0 equation other.1 is_of in
-        let fails : sides_meet arrows equation ≡ false = subst (λ equation. sides_meet arrows equation ≡ false) same other.2 in cc)
+    let same : other.0 ≡ equation = same_equation objects arrows texts other.0 equation other.1 is_of in
+    let fails : sides_meet arrows equation ≡ false = subst (λ equation. sides_meet arrows equation ≡ false) same other.2 in cc)
     (λ passes code never. never)))))))
 
 -- where there is no equation, nothing is wrong

@@ -1,5 +1,5 @@
 -- Schemas and instances tell the fault of their first section that has one.
-use Rattle.std.proofs.Common.{◌≡◌, ◌∙◌, ◌<◌, ◌≤◌, ◌⊎◌, inl, inr, ℕ, Bool, true, false, Option, Some, None, Result, Ok, Err, List, [], ◌∷◌, codes, refl, sym, ap, subst, arith}
+use Rattle.std.proofs.Common.{◌≡◌, inl, inr, ℕ, Bool, true, Option, Some, Result, Ok, Err, List, [], ◌∷◌, codes, refl, subst, arith}
 use Rattle.serde_json.specs.Data.{Data}
 use Rattle.serde_json.specs.Find.{get}
 use Rattle.rw_schema.specs.declared.atom.Atom.{Atom}
@@ -9,11 +9,9 @@ use Rattle.rw_schema.specs.Presentation.{Presentation}
 use Rattle.rw_schema.specs.Signature.{Signature}
 use Rattle.rw_spec.specs.Tabled.{Tabled}
 use Rattle.rw_doc.specs.declared.fault.DocFault.{DocFault}
-use Rattle.rw_doc.specs.Chain.{and_then}
 use Rattle.rw_doc.specs.Entries.{TellsInOrder}
 use Rattle.rw_doc.specs.Faults.{fault_of}
 use Rattle.rw_doc.specs.InstanceEntries.{HasParts, HasRows, HasCells, InstanceTellsFirst}
-use Rattle.rw_doc.specs.Instances
 use Rattle.rw_doc.specs.Instances.{read_parts, read_rows, read_cells, rows_of, with_equations, instance_keys}
 use Rattle.rw_doc.specs.Json.{has_only}
 use Rattle.rw_doc.specs.SchemaEntries.{member_at, HasOtherKeys, HasObjects, HasArrows, SchemaTellsFirst}
@@ -56,24 +54,24 @@ schema_sections value =
     (λ objects known. order_read 2 (ArrowFault value) (or_place 3 (AttributeFault value) (only_place 4 (EquationFault value))) (read_arrows objects arrows_value) _ (λ place fault has. omega (arith, has))
     (λ fault is. (objects, known, is))
     (λ arrows is fault fails.
-        let same = one_value (read_objects objects_value) fails.0 objects fails.1 known in
-        no_fault (read_arrows objects arrows_value) arrows fault is (subst (λ objects. read_arrows objects arrows_value ≡ Err fault) same fails.2))
+    let same = one_value (read_objects objects_value) fails.0 objects fails.1 known in
+    no_fault (read_arrows objects arrows_value) arrows fault is (subst (λ objects. read_arrows objects arrows_value ≡ Err fault) same fails.2))
     (λ arrows between. order_read 3 (AttributeFault value) (only_place 4 (EquationFault value)) (read_attributes objects attributes_value) _ (λ place fault has. omega (arith, has.0))
     (λ fault is. (objects, known, is))
     (λ attributes is fault fails.
-        let same = one_value (read_objects objects_value) fails.0 objects fails.1 known in
-        no_fault (read_attributes objects attributes_value) attributes fault is (subst (λ objects. read_attributes objects attributes_value ≡ Err fault) same fails.2))
+    let same = one_value (read_objects objects_value) fails.0 objects fails.1 known in
+    no_fault (read_attributes objects attributes_value) attributes fault is (subst (λ objects. read_attributes objects attributes_value ≡ Err fault) same fails.2))
     (λ attributes of.
     order_last 4 (EquationFault value) (read_equations objects arrows equations_value)
     (λ equations. let schema : Presentation = record { objects = objects; arrows = arrows; attributes = attributes; equations = equations } in schema)
     (λ fault is. (objects, arrows, known, between, is))
     (λ equations is fault fails.
-        let same = one_value (read_objects objects_value) fails.0 objects fails.2 known in
-        let arrows_are : read_arrows objects arrows_value ≡ Ok fails.1 = subst (λ objects. read_arrows objects arrows_value ≡ Ok fails.1) same fails.3 in
-        let same_arrows = one_value (read_arrows objects arrows_value) fails.1 arrows arrows_are between in
-        no_fault (read_equations objects arrows equations_value) equations fault is
-        (subst (λ arrows. read_equations objects arrows equations_value ≡ Err fault) same_arrows
-        (subst (λ objects. read_equations objects fails.1 equations_value ≡ Err fault) same fails.4))))))
+    let same = one_value (read_objects objects_value) fails.0 objects fails.2 known in
+    let arrows_are : read_arrows objects arrows_value ≡ Ok fails.1 = subst (λ objects. read_arrows objects arrows_value ≡ Ok fails.1) same fails.3 in
+    let same_arrows = one_value (read_arrows objects arrows_value) fails.1 arrows arrows_are between in
+    no_fault (read_equations objects arrows equations_value) equations fault is
+    (subst (λ arrows. read_equations objects arrows equations_value ≡ Err fault) same_arrows
+    (subst (λ objects. read_equations objects fails.1 equations_value ≡ Err fault) same fails.4))))))
 
 -- what is at a key
 at_key : (key : List ℕ) (value x : Data) → get key value ≡ Some x → member_at key value ≡ x
@@ -96,8 +94,8 @@ schema_tells value =
     (λ other. inl other) (λ none. inr (inl none)) (λ none. inr (inr (inl none)))
     (both_there schema_keys (codes "objects") (codes "arrows") value)
     (λ x y first second.
-        subst (λ x. TellsInOrder (SchemaSections value) (rest x y)) (at_key (codes "objects") value x first)
-        (subst (λ y. TellsInOrder (SchemaSections value) (rest (member_at (codes "objects") value) y)) (at_key (codes "arrows") value y second) (schema_sections value)))
+    subst (λ x. TellsInOrder (SchemaSections value) (rest x y)) (at_key (codes "objects") value x first)
+    (subst (λ y. TellsInOrder (SchemaSections value) (rest (member_at (codes "objects") value) y)) (at_key (codes "arrows") value y second) (schema_sections value)))
 
 -- ---- instances
 
@@ -150,13 +148,13 @@ instance_sections C blanks value =
     (λ parts known. order_read 2 (RowFault C value) (or_place 3 (CellFault C blanks value) (only_place 4 (Failure C blanks value))) (read_rows C parts rows_value) _ (λ place fault has. omega (arith, has))
     (λ fault is. (parts, known, is))
     (λ arrows is fault fails.
-        let same = one_value (read_parts C parts_value) fails.0 parts fails.1 known in
-        no_fault (read_rows C parts rows_value) arrows fault is (subst (λ parts. read_rows C parts rows_value ≡ Err fault) same fails.2))
+    let same = one_value (read_parts C parts_value) fails.0 parts fails.1 known in
+    no_fault (read_rows C parts rows_value) arrows fault is (subst (λ parts. read_rows C parts rows_value ≡ Err fault) same fails.2))
     (λ arrows between. order_read 3 (CellFault C blanks value) (only_place 4 (Failure C blanks value)) (read_cells C blanks parts cells_value) _ (λ place fault has. omega (arith, has.0))
     (λ fault is. (parts, known, is))
     (λ cells is fault fails.
-        let same = one_value (read_parts C parts_value) fails.0 parts fails.1 known in
-        no_fault (read_cells C blanks parts cells_value) cells fault is (subst (λ parts. read_cells C blanks parts cells_value ≡ Err fault) same fails.2))
+    let same = one_value (read_parts C parts_value) fails.0 parts fails.1 known in
+    no_fault (read_cells C blanks parts cells_value) cells fault is (subst (λ parts. read_cells C blanks parts cells_value ≡ Err fault) same fails.2))
     (λ cells of. failures_last C blanks value parts arrows cells known between of (with_equations C (rows_of parts arrows cells)) refl)))
 
 -- an instance tells the fault of its first section that has one
@@ -168,5 +166,5 @@ instance_tells C blanks value =
     (λ other. inl other) (λ none. inr (inl none)) (λ none. inr (inr (inl none)))
     (both_there instance_keys (codes "parts") (codes "rows") value)
     (λ x y first second.
-        subst (λ x. TellsInOrder (InstanceSections C blanks value) (rest x y)) (at_key (codes "parts") value x first)
-        (subst (λ y. TellsInOrder (InstanceSections C blanks value) (rest (member_at (codes "parts") value) y)) (at_key (codes "rows") value y second) (instance_sections C blanks value)))
+    subst (λ x. TellsInOrder (InstanceSections C blanks value) (rest x y)) (at_key (codes "parts") value x first)
+    (subst (λ y. TellsInOrder (InstanceSections C blanks value) (rest (member_at (codes "parts") value) y)) (at_key (codes "rows") value y second) (instance_sections C blanks value)))

@@ -96,7 +96,7 @@ IsUnknownAt arrows names place = (name : List ℕ) × (slice_get names place ≡
 -- the arrows of a path
 path_named_tells : (fault : DocFault) (arrows : List ArrowDef) (names : List (List ℕ))
     → Tells ((place : ℕ) → IsUnknownAt arrows names place → ⊥) (AtFirst (λ place. IsUnknownAt arrows names place → ⊥) (λ place given. (given ≡ fault) × IsUnknownAt arrows names place))
-      (path_named fault arrows names)
+    (path_named fault arrows names)
 path_named_tells fault arrows names =
     each_tells (λ place name. arrow_named fault arrows name) (λ place. IsUnknownAt arrows names place → ⊥) (λ place given. (given ≡ fault) × IsUnknownAt arrows names place) 0 names
     (λ place name found. name_tells place name found (arrow_named fault arrows name) (arrow_named_tells fault arrows name))
@@ -104,6 +104,7 @@ path_named_tells fault arrows names =
   where
     absent : (value : Option (List ℕ)) (name : List ℕ) → value ≡ None → value ≡ Some name → ⊥
     absent value name none is = cc
+
     name_tells : (place : ℕ) (name : List ℕ) → slice_get names place ≡ Some name → (reading : Result ArrowId DocFault)
         → Tells (IsNoneOf (map arrow_name arrows) name → ⊥) (λ given. (given ≡ fault) × IsNoneOf (map arrow_name arrows) name) reading
         → Tells (IsUnknownAt arrows names place → ⊥) (λ given. (given ≡ fault) × IsUnknownAt arrows names place) reading
@@ -116,7 +117,7 @@ pub path_unknown : (fault : DocFault) (arrows : List ArrowDef) (names : List (Li
     → (given ≡ fault) × HasNoneOf (map arrow_name arrows) names
 path_unknown fault arrows names given is =
     let first = told ((place : ℕ) → IsUnknownAt arrows names place → ⊥) (AtFirst (λ place. IsUnknownAt arrows names place → ⊥) (λ place given. (given ≡ fault) × IsUnknownAt arrows names place))
-        (path_named fault arrows names) given (path_named_tells fault arrows names) is in
+    (path_named fault arrows names) given (path_named_tells fault arrows names) is in
     (first.1.0, (first.0, first.1.1.0, first.1.1.1, first.1.1.2))
 
 -- a path whose arrows are found

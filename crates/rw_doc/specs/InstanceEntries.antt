@@ -1,5 +1,5 @@
 -- What is wrong with the entries of an instance, by the codes of docs/FORMAT.md, and that its readers tell the first of it.
-use Rattle.std.specs.Prelude.{◌≡◌, ◌≢◌, ◌<◌, ◌≤◌, ◌⊎◌, ℕ, Bool, true, false, List, [], ◌∷◌, Option, Some, None, Ok, Err, codes, length, slice_get, slice_index, unwrap_or}
+use Rattle.std.specs.Prelude.{◌≡◌, ◌≢◌, ◌<◌, ◌≤◌, ◌⊎◌, ℕ, Bool, true, List, [], ◌∷◌, Option, Some, None, Ok, Err, codes, length, slice_get, slice_index, unwrap_or}
 use Rattle.serde_json.specs.Data.{Data}
 use Rattle.serde_json.specs.Find.{as_str, get}
 use Rattle.rw_schema.specs.declared.atom.Atom.{Atom}
@@ -110,7 +110,7 @@ EquationFailsAt C parts X place part code = (code ≡ 10) × ((equation : equati
 abbrev pub FailuresTellFirst : Type 0
 FailuresTellFirst = (C : Signature) (parts : List ℕ) (arrows : List (List ℕ)) (cells : List (List (Option Atom)))
     → TellsFirstOfLists Equation no_code (λ place. no_code) (EquationFailsAt C parts (instances.instance_of C (rows_of parts arrows cells)))
-      (with_equations C (rows_of parts arrows cells))
+    (with_equations C (rows_of parts arrows cells))
 
 -- ---- the whole
 
@@ -135,7 +135,7 @@ InstanceHas C blanks value place fault =
     ⊎ (place ≡ 2) × ((parts : List ℕ) × HasParts C value parts × (read_rows C parts (member_at (codes "rows") value) ≡ Err fault))
     ⊎ (place ≡ 3) × ((parts : List ℕ) × HasParts C value parts × (read_cells C blanks parts (get (codes "cells") value) ≡ Err fault))
     ⊎ (place ≡ 4) × ((parts : List ℕ) × (arrows : List (List ℕ)) × (cells : List (List (Option Atom))) × HasParts C value parts × HasRows C value parts arrows
-        × HasCells C blanks value parts cells × (with_equations C (rows_of parts arrows cells) ≡ Err fault))
+    × HasCells C blanks value parts cells × (with_equations C (rows_of parts arrows cells) ≡ Err fault))
 
 -- an instance tells the fault of its first section that has one
 abbrev pub InstanceTellsFirst : Type 0

@@ -129,7 +129,7 @@ EquationHas objects arrows items place code =
     ⊎ (code ≡ 6) × IsWritten equation_form items place (λ texts. HasNoneOf (map arrow_name arrows) texts.left)
     ⊎ (code ≡ 6) × IsWritten equation_form items place (λ texts. HasNoneOf (map arrow_name arrows) texts.right)
     ⊎ (code ≡ 7) × IsWritten equation_form items place (λ texts.
-        (equation : parts.Equation) × IsEquationOf objects arrows texts equation × (sides_meet arrows equation ≡ false))
+    (equation : parts.Equation) × IsEquationOf objects arrows texts equation × (sides_meet arrows equation ≡ false))
 
 -- the equations tell their first fault
 abbrev pub EquationsTellFirst : Type 0
@@ -168,7 +168,7 @@ SchemaHas value place fault =
     ⊎ (place ≡ 2) × ((objects : List (List ℕ)) × HasObjects value objects × (read_arrows objects (member_at (codes "arrows") value) ≡ Err fault))
     ⊎ (place ≡ 3) × ((objects : List (List ℕ)) × HasObjects value objects × (read_attributes objects (get (codes "attributes") value) ≡ Err fault))
     ⊎ (place ≡ 4) × ((objects : List (List ℕ)) × (arrows : List ArrowDef) × HasObjects value objects × HasArrows value objects arrows
-        × (read_equations objects arrows (get (codes "equations") value) ≡ Err fault))
+    × (read_equations objects arrows (get (codes "equations") value) ≡ Err fault))
 
 -- a schema tells the fault of its first section that has one
 abbrev pub SchemaTellsFirst : Type 0
