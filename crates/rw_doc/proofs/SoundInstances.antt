@@ -18,6 +18,7 @@ use Rattle.rw_doc.specs.declared.fault.DocFault.{DocFault}
 use Rattle.rw_doc.specs.Chain.{each_in, some_or, checked}
 use Rattle.rw_doc.specs.Faults.{fault_at, fault_of}
 use Rattle.rw_doc.specs.Instances as spec
+use Rattle.rw_doc.specs.Limits.{most_parts}
 use Rattle.rw_doc.specs.Json.{as_list, as_count, is_null, atom_of, is_short}
 use Rattle.rw_doc.proofs.Chains.{chain, checked_then, each, each_passes, each_long, each_at}
 use Rattle.rw_doc.proofs.PartLists.{AreLists, only_equations_fail}
@@ -33,20 +34,20 @@ long_items fault count value =
 -- ---- parts
 
 -- the number of an object's parts is within its limit
-few_parts : (object : ℕ) (value : Data) (count : ℕ) → spec.read_part_count object value ≡ Ok count → count ≤ 1000000
+few_parts : (object : ℕ) (value : Data) (count : ℕ) → spec.read_part_count object value ≡ Ok count → count ≤ most_parts
 few_parts object value =
-    chain (λ count. count ≤ 1000000) (some_or (fault_at 2 Parts object 0) (as_count value)) _
-    (λ count there. checked_then (λ count. count ≤ 1000000) (fault_at 4 Parts object 0) (nat_le count 1000000) (Ok count)
-    (λ few same is. let one : count ≡ same = cc in subst (λ count. count ≤ 1000000) one (leb-true count 1000000 few)))
+    chain (λ count. count ≤ most_parts) (some_or (fault_at 2 Parts object 0) (as_count value)) _
+    (λ count there. checked_then (λ count. count ≤ most_parts) (fault_at 4 Parts object 0) (nat_le count most_parts) (Ok count)
+    (λ few same is. let one : count ≡ same = cc in subst (λ count. count ≤ most_parts) one (leb-true count most_parts few)))
 
 -- there is one number for each object, within its limit
 pub parts_read : (C : Signature) (value : Data) (parts : List ℕ) → spec.read_parts C value ≡ Ok parts
-    → (length parts ≡ C.objects) × All (λ count. count ≤ 1000000) parts
+    → (length parts ≡ C.objects) × All (λ count. count ≤ most_parts) parts
 parts_read C value =
-    chain (λ parts. (length parts ≡ C.objects) × All (λ count. count ≤ 1000000) parts) (spec.with_length (fault_of 2 Parts) C.objects (as_list value)) (each_in spec.read_part_count 0)
+    chain (λ parts. (length parts ≡ C.objects) × All (λ count. count ≤ most_parts) parts) (spec.with_length (fault_of 2 Parts) C.objects (as_list value)) (each_in spec.read_part_count 0)
     (λ items long parts is. (
       each_long spec.read_part_count 0 items parts is ∙ long_items (fault_of 2 Parts) C.objects (as_list value) items long,
-      each (λ count. count ≤ 1000000) spec.read_part_count few_parts 0 items parts is,
+      each (λ count. count ≤ most_parts) spec.read_part_count few_parts 0 items parts is,
     ))
 
 -- ---- rows

@@ -13,6 +13,7 @@ use Rattle.rw_schema.specs.declared.parts.AttrDef.{AttrDef}
 use Rattle.rw_schema.specs.declared.parts.Equation as parts
 use Rattle.rw_schema.specs.declared.section.Section.{Section}
 use Rattle.rw_schema.specs.declared.section.Section.TheVariants.{Objects, Arrows, Attributes, Equations}
+use Rattle.rw_schema.specs.Limits.{most_objects, most_arrows, most_attributes, most_equations}
 use Rattle.rw_schema.specs.Presentation.{Presentation}
 use Rattle.rw_schema.specs.SchemaFaults.{is_name, has_ends, has_holder, is_of_schema, has_short_sides, sides_meet, object_name, arrow_name, attribute_name, schema_fault}
 use Rattle.rw_schema.proofs.Schemas.{misplaced_first}
@@ -55,14 +56,14 @@ object_new before value =
 
 -- few objects, with names
 abbrev pub AreObjects : List (List ℕ) → Type 0
-AreObjects objects = IsFew 64 objects × HasNames object_name Objects objects
+AreObjects objects = IsFew most_objects objects × HasNames object_name Objects objects
 
 -- the objects that are read
 objects_read : (value : Data) (objects : List (List ℕ)) → Schemas.read_objects value ≡ Ok objects → AreObjects objects
 objects_read value =
-    chain AreObjects (Schemas.read_list Objects 64 value) (each_after Schemas.read_object [])
+    chain AreObjects (Schemas.read_list Objects most_objects value) (each_after Schemas.read_object [])
     (λ items read objects is.
-    let few : length items ≤ 64 = few_items Objects 64 value items read in
+    let few : length items ≤ most_objects = few_items Objects most_objects value items read in
     let long : length objects ≡ 0 + length items = behind_long Schemas.read_object [] items objects is in (
       omega arith,
       behind (HasNames object_name Objects) Schemas.read_object
@@ -110,11 +111,11 @@ one_arrow_more objects before value arrow arrows here =
 
 -- the arrows that are read
 arrows_read : (objects : List (List ℕ)) (value : Data) (arrows : List ArrowDef) → Schemas.read_arrows objects value ≡ Ok arrows
-    → IsFew 256 arrows × AreArrows objects arrows
+    → IsFew most_arrows arrows × AreArrows objects arrows
 arrows_read objects value =
-    chain (λ arrows. IsFew 256 arrows × AreArrows objects arrows) (Schemas.read_list Arrows 256 value) (each_after (Schemas.read_arrow objects) [])
+    chain (λ arrows. IsFew most_arrows arrows × AreArrows objects arrows) (Schemas.read_list Arrows most_arrows value) (each_after (Schemas.read_arrow objects) [])
     (λ items read arrows is.
-    let few : length items ≤ 256 = few_items Arrows 256 value items read in
+    let few : length items ≤ most_arrows = few_items Arrows most_arrows value items read in
     let long : length arrows ≡ 0 + length items = behind_long (Schemas.read_arrow objects) [] items arrows is in (
       omega arith,
       behind (AreArrows objects) (Schemas.read_arrow objects) (λ before value arrow. one_arrow_more objects before value arrow)
@@ -160,11 +161,11 @@ one_attribute_more objects before value attribute attributes here =
 
 -- the attributes that are read
 attributes_read : (objects : List (List ℕ)) (value : Option Data) (attributes : List AttrDef) → Schemas.read_attributes objects value ≡ Ok attributes
-    → IsFew 256 attributes × AreAttributes objects attributes
+    → IsFew most_attributes attributes × AreAttributes objects attributes
 attributes_read objects value =
-    chain (λ attributes. IsFew 256 attributes × AreAttributes objects attributes) (Schemas.read_list_or_none Attributes 256 value) (each_after (Schemas.read_attribute objects) [])
+    chain (λ attributes. IsFew most_attributes attributes × AreAttributes objects attributes) (Schemas.read_list_or_none Attributes most_attributes value) (each_after (Schemas.read_attribute objects) [])
     (λ items read attributes is.
-    let few : length items ≤ 256 = few_or_none Attributes 256 value items read in
+    let few : length items ≤ most_attributes = few_or_none Attributes most_attributes value items read in
     let long : length attributes ≡ 0 + length items = behind_long (Schemas.read_attribute objects) [] items attributes is in (
       omega arith,
       behind (AreAttributes objects) (Schemas.read_attribute objects) (λ before value attribute. one_attribute_more objects before value attribute)
@@ -207,7 +208,7 @@ equation_is objects arrows place value =
 
 -- the equations that are read
 record AreEquations (objects : List (List ℕ)) (arrows : List ArrowDef) (equations : List parts.Equation) : Type 0 where
-  few : length equations ≤ 256
+  few : length equations ≤ most_equations
   short : list_all has_short_sides equations ≡ true
   known : list_all (is_of_schema (length objects) (length arrows)) equations ≡ true
   meet : list_all (sides_meet arrows) equations ≡ true
@@ -217,9 +218,9 @@ equations_read : (objects : List (List ℕ)) (arrows : List ArrowDef) (value : O
     → Schemas.read_equations objects arrows value ≡ Ok equations → AreEquations objects arrows equations
 equations_read objects arrows value =
     let f = Schemas.read_equation objects arrows in
-    chain (AreEquations objects arrows) (Schemas.read_list_or_none Equations 256 value) (each_in f 0)
+    chain (AreEquations objects arrows) (Schemas.read_list_or_none Equations most_equations value) (each_in f 0)
     (λ items read equations is.
-    let few : length items ≤ 256 = few_or_none Equations 256 value items read in
+    let few : length items ≤ most_equations = few_or_none Equations most_equations value items read in
     let long : length equations ≡ length items = each_long f 0 items equations is in record {
       few = omega arith;
       short = each_passes has_short_sides f (λ i x y here. (equation_is objects arrows i x y here).short) 0 items equations is;
@@ -243,10 +244,10 @@ sections_sound objects_value arrows_value attributes_value equations_value objec
     let lists : Presentation = record { objects = objects; arrows = arrows; attributes = attributes; equations = equations } in
     misplaced_first lists None
     (rw (
-      le-leb (length objects) 64 first.0,
-      le-leb (length arrows) 256 second.0,
-      le-leb (length attributes) 256 third.0,
-      le-leb (length equations) 256 fourth.few,
+      le-leb (length objects) most_objects first.0,
+      le-leb (length arrows) most_arrows second.0,
+      le-leb (length attributes) most_attributes third.0,
+      le-leb (length equations) most_equations fourth.few,
       first.1.named,
       second.1.names.named,
       third.1.names.named,

@@ -18,6 +18,7 @@ use Rattle.rw_spec.specs.Tabled.{Tabled}
 use Rattle.rw_doc.specs.declared.fault.DocFault.{DocFault}
 use Rattle.rw_doc.specs.Chain.{and_then, each_in, some_or, checked, unfaulted}
 use Rattle.rw_doc.specs.Faults.{fault_at, fault_of}
+use Rattle.rw_doc.specs.Limits.{most_parts}
 use Rattle.rw_doc.specs.Json.{as_list, as_count, has_only, is_null, atom_of, is_short}
 
 -- as many items as this, or the fault
@@ -29,7 +30,7 @@ with_length fault count items = and_then (some_or fault items) (λ items. checke
 -- the number of an object's parts: codes 2 and 4
 abbrev pub read_part_count : ℕ → Data → Result ℕ DocFault
 read_part_count object value = and_then (some_or (fault_at 2 Parts object 0) (as_count value)) (λ count.
-    checked (fault_at 4 Parts object 0) (nat_le count 1000000) (Ok count))
+    checked (fault_at 4 Parts object 0) (nat_le count most_parts) (Ok count))
 
 -- one count for each object
 abbrev pub read_parts : Signature → Data → Result (List ℕ) DocFault

@@ -8,6 +8,7 @@ use Rattle.rw_schema.specs.declared.atom.Atom.{Atom}
 use Rattle.rw_schema.specs.declared.atom.Atom.TheVariants as atoms
 use Rattle.rw_schema.specs.First.{or_else}
 use Rattle.rw_doc.specs.Chain.{all_some}
+use Rattle.rw_doc.specs.Limits.{longest_text}
 
 abbrev pub list_of : Items → List Data
 list_of no_items = []
@@ -47,8 +48,8 @@ atom_of value =
     or_else (option_map atoms.Int (option_and_then as_i64 (as_number value)))
     (or_else (option_map atoms.Text (as_str value)) (option_map atoms.Bool (as_bool value)))
 
--- a text has at most 65,535 bytes
+-- a text has at most as many bytes as a text may have
 abbrev pub is_short : Atom → Bool
 is_short (atoms.Int number) = true
-is_short (atoms.Text text) = nat_le (length text) 65535
+is_short (atoms.Text text) = nat_le (length text) longest_text
 is_short (atoms.Bool truth) = true

@@ -1,10 +1,14 @@
 pub mod Chain
+pub mod Entries
 pub mod Faults
 pub mod Gives
+pub mod InstanceEntries
 pub mod Instances
 pub mod Json
+pub mod Limits
 pub mod Numbers
 pub mod Pieces
+pub mod SchemaEntries
 pub mod Schemas
 pub mod Sections
 pub mod Texts

@@ -14,6 +14,7 @@ use Rattle.rw_schema.specs.declared.parts.AttrDef.{AttrDef}
 use Rattle.rw_schema.specs.declared.parts.Equation as parts
 use Rattle.rw_schema.specs.declared.section.Section.{Section}
 use Rattle.rw_schema.specs.declared.section.Section.TheVariants.{Schema, Objects, Arrows, Attributes, Equations}
+use Rattle.rw_schema.specs.Limits.{most_objects, most_arrows, most_attributes, most_equations, longest_path}
 use Rattle.rw_schema.specs.Presentation.{Presentation}
 use Rattle.rw_schema.specs.SchemaFaults.{is_name, sides_meet}
 use Rattle.rw_doc.specs.declared.fault.DocFault.{DocFault}
@@ -52,7 +53,7 @@ read_object before value = and_then (some_or (fault_at 2 Objects (length before)
     (Ok name)))
 
 abbrev pub read_objects : Data → Result (List (List ℕ)) DocFault
-read_objects value = and_then (read_list Objects 64 value) (each_after read_object [])
+read_objects value = and_then (read_list Objects most_objects value) (each_after read_object [])
 
 -- ---- arrows
 
@@ -80,7 +81,7 @@ read_arrow objects before value = and_then (some_or (fault_at 2 Arrows (length b
     Ok (record { name = texts.name; source = source; target = target }))))))
 
 abbrev pub read_arrows : List (List ℕ) → Data → Result (List ArrowDef) DocFault
-read_arrows objects value = and_then (read_list Arrows 256 value) (each_after (read_arrow objects) [])
+read_arrows objects value = and_then (read_list Arrows most_arrows value) (each_after (read_arrow objects) [])
 
 -- ---- attributes
 
@@ -115,7 +116,7 @@ read_attribute objects before value = and_then (some_or (fault_at 2 Attributes (
     Ok (record { name = texts.name; object = object; kind = texts.kind })))))
 
 abbrev pub read_attributes : List (List ℕ) → Option Data → Result (List AttrDef) DocFault
-read_attributes objects value = and_then (read_list_or_none Attributes 256 value) (each_after (read_attribute objects) [])
+read_attributes objects value = and_then (read_list_or_none Attributes most_attributes value) (each_after (read_attribute objects) [])
 
 -- ---- equations
 
@@ -135,7 +136,7 @@ equation_texts (base ∷ left ∷ right ∷ other ∷ others) = None
 
 -- each path has at most 32 arrows
 abbrev pub has_short_paths : EquationTexts → Bool
-has_short_paths texts = nat_le (length texts.left) 32 && nat_le (length texts.right) 32
+has_short_paths texts = nat_le (length texts.left) longest_path && nat_le (length texts.right) longest_path
 
 -- the arrows with the names
 abbrev pub path_named : DocFault → List ArrowDef → List (List ℕ) → Result (List ArrowId) DocFault
@@ -152,7 +153,7 @@ read_equation objects arrows place value = and_then (some_or (fault_at 2 Equatio
     (Ok (record { object = object; left = left; right = right })))))))
 
 abbrev pub read_equations : List (List ℕ) → List ArrowDef → Option Data → Result (List parts.Equation) DocFault
-read_equations objects arrows value = and_then (read_list_or_none Equations 256 value) (each_in (read_equation objects arrows) 0)
+read_equations objects arrows value = and_then (read_list_or_none Equations most_equations value) (each_in (read_equation objects arrows) 0)
 
 -- ---- the whole
 

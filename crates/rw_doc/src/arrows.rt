@@ -4,6 +4,7 @@ ghost use Rattle.std.specs.Prelude.{◌≡◌, ◌<◌, ◌≤◌, [], IfOk, len
 ghost use Rattle.std.specs.List.{list_any};
 ghost use Rattle.std.specs.Str.{bytes_eq};
 ghost use Rattle.serde_json.specs.View.{view};
+ghost use Rattle.rw_schema.specs.Limits.{most_objects, most_arrows};
 ghost use Rattle.rw_doc.specs.Chain.{each_after};
 ghost use Rattle.rw_doc.specs.Gives.{Gives};
 ghost use Rattle.rw_doc.specs.Json.{as_list};
@@ -70,7 +71,7 @@ pub(crate) fn arrow_named(
     arrows: &[ArrowDef],
     name: &str,
 ) -> Result<ArrowId, ReadDocEnd>
-    requires { length arrows.now ≤ 256 }
+    requires { length arrows.now ≤ most_arrows }
     ensures { Gives (λ arrow. arrow) result (spec.arrow_named fault arrows.now name.now) }
 {
     match place_of(arrows, name) {
@@ -86,8 +87,8 @@ fn read_arrow(
     before: &[ArrowDef],
     value: &Value,
 ) -> Result<ArrowDef, ReadDocEnd>
-    requires objects { length objects.now ≤ 64 }
-    requires before { length before.now < 256 }
+    requires objects { length objects.now ≤ most_objects }
+    requires before { length before.now < most_arrows }
     ensures { Gives (λ arrow. arrow) result (spec.read_arrow objects.now before.now (view value.now)) }
 {
     let place = before.len() as u32;
@@ -113,10 +114,10 @@ fn read_arrow(
 
 /// The arrows that the values are.
 fn arrows_of(alloc: Global, objects: &[Text], items: &[Value]) -> Result<Vec<ArrowDef>, ReadDocEnd>
-    requires objects { length objects.now ≤ 64 }
-    requires items { length items.now ≤ 256 }
+    requires objects { length objects.now ≤ most_objects }
+    requires items { length items.now ≤ most_arrows }
     ensures gives { Gives (λ arrows. arrows.items) result (each_after (spec.read_arrow objects.now) [] (map view items.now)) }
-    ensures few { IfOk result (λ arrows. length arrows.items ≤ 256) }
+    ensures few { IfOk result (λ arrows. length arrows.items ≤ most_arrows) }
 {
     let mut arrows = Vec::new(alloc);
     for item in items {
@@ -132,9 +133,9 @@ pub(crate) fn read_arrows(
     objects: &[Text],
     value: &Value,
 ) -> Result<Vec<ArrowDef>, ReadDocEnd>
-    requires { length objects.now ≤ 64 }
+    requires { length objects.now ≤ most_objects }
     ensures gives { Gives (λ arrows. arrows.items) result (spec.read_arrows objects.now (view value.now)) }
-    ensures few { IfOk result (λ arrows. length arrows.items ≤ 256) }
+    ensures few { IfOk result (λ arrows. length arrows.items ≤ most_arrows) }
 {
     let items = read_list(Section::Arrows, MOST_ARROWS, value)?;
     arrows_of(alloc, objects, items)

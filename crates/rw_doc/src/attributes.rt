@@ -5,6 +5,7 @@ ghost use Rattle.std.specs.List.{list_any};
 ghost use Rattle.std.specs.Str.{bytes_eq};
 ghost use Rattle.serde_json.specs.Find.{as_str};
 ghost use Rattle.serde_json.specs.View.{view};
+ghost use Rattle.rw_schema.specs.Limits.{most_objects, most_attributes};
 ghost use Rattle.rw_doc.specs.Chain.{each_after};
 ghost use Rattle.rw_doc.specs.Gives.{Gives};
 ghost use Rattle.rw_doc.specs.Json.{as_list};
@@ -82,8 +83,8 @@ fn read_attribute(
     before: &[AttrDef],
     value: &Value,
 ) -> Result<AttrDef, ReadDocEnd>
-    requires objects { length objects.now ≤ 64 }
-    requires before { length before.now < 256 }
+    requires objects { length objects.now ≤ most_objects }
+    requires before { length before.now < most_attributes }
     ensures { Gives (λ attribute. attribute) result (spec.read_attribute objects.now before.now (view value.now)) }
 {
     let place = before.len() as u32;
@@ -112,8 +113,8 @@ fn attributes_of(
     objects: &[Text],
     items: &[Value],
 ) -> Result<Vec<AttrDef>, ReadDocEnd>
-    requires objects { length objects.now ≤ 64 }
-    requires items { length items.now ≤ 256 }
+    requires objects { length objects.now ≤ most_objects }
+    requires items { length items.now ≤ most_attributes }
     ensures { Gives (λ attributes. attributes.items) result (each_after (spec.read_attribute objects.now) [] (map view items.now)) }
 {
     let mut attributes = Vec::new(alloc);
@@ -130,7 +131,7 @@ pub(crate) fn read_attributes(
     objects: &[Text],
     value: Option<&Value>,
 ) -> Result<Vec<AttrDef>, ReadDocEnd>
-    requires { length objects.now ≤ 64 }
+    requires { length objects.now ≤ most_objects }
     ensures { Gives (λ attributes. attributes.items) result (spec.read_attributes objects.now (option_map (λ value. view value.now) value.entry)) }
 {
     let items = read_list_or_none(Section::Attributes, MOST_ATTRIBUTES, value)?;

@@ -3,23 +3,23 @@
 ghost use Rattle.std.specs.Prelude.{◌≡◌, ◌<◌, ◌≤◌, IfOk, length, map, option_map, slice_get, slice_index};
 ghost use Rattle.std.specs.List.{All};
 ghost use Rattle.serde_json.specs.View.{view};
+ghost use Rattle.rw_schema.specs.Limits.{most_attributes};
 ghost use Rattle.rw_schema.specs.Presentation.{signature_of};
 ghost use Rattle.rw_schema.specs.Signature.{holder_of};
 ghost use Rattle.rw_doc.specs.Chain.{each_in};
 ghost use Rattle.rw_doc.specs.Gives.{Gives};
 ghost use Rattle.rw_doc.specs.Instances as spec;
+ghost use Rattle.rw_doc.specs.Limits.{most_parts};
 ghost use Rattle.rw_doc.specs.Json.{is_short};
 
 use crate::ReadDocEnd;
 use crate::faults::{fault_at, fault_of, refused_at};
 use crate::json::atom_of;
+use crate::limits::LONGEST_TEXT;
 use crate::lists::{items_of, with_length};
 use rw_schema::{Atom, AttrId, Schema, Section};
 use serde_json::Value;
 use std::alloc::Global;
-
-/// The greatest number of bytes of a text.
-const LONGEST_TEXT: usize = 65_535;
 
 /// The number of the parts of the attribute's object.
 fn holder_parts(schema: &Schema, parts: &[u32], attribute: AttrId) -> u32
@@ -88,7 +88,7 @@ fn cells_of(
     items: &[Value],
 ) -> Result<Vec<Option<Atom>>, ReadDocEnd>
     requires attribute { attribute.0 < length schema.now.attributes }
-    requires items { length items.now ≤ 1000000 }
+    requires items { length items.now ≤ most_parts }
     ensures { Gives (λ cells. cells.items) result (each_in (spec.read_cell (signature_of schema.now) blanks attribute.0) 0 (map view items.now)) }
 {
     let mut cells = Vec::new(alloc);
@@ -110,7 +110,7 @@ fn read_cell_list(
 ) -> Result<Vec<Option<Atom>>, ReadDocEnd>
     requires attribute { attribute.0 < length schema.now.attributes }
     requires parts { length parts.now ≡ length schema.now.objects }
-    requires few { All (λ count. count ≤ 1000000) parts.now }
+    requires few { All (λ count. count ≤ most_parts) parts.now }
     ensures { Gives (λ cells. cells.items) result (spec.read_cell_list (signature_of schema.now) blanks parts.now attribute.0 (view value.now)) }
 {
     let count = holder_parts(schema, parts, attribute);
@@ -128,9 +128,9 @@ fn cell_lists(
     items: &[Value],
 ) -> Result<Vec<Vec<Option<Atom>>>, ReadDocEnd>
     requires items { length items.now ≡ length schema.now.attributes }
-    requires attributes { length schema.now.attributes ≤ 256 }
+    requires attributes { length schema.now.attributes ≤ most_attributes }
     requires parts { length parts.now ≡ length schema.now.objects }
-    requires few { All (λ count. count ≤ 1000000) parts.now }
+    requires few { All (λ count. count ≤ most_parts) parts.now }
     ensures { Gives (λ lists. map (λ list. list.items) lists.items) result (each_in (spec.read_cell_list (signature_of schema.now) blanks parts.now) 0 (map view items.now)) }
 {
     let mut lists = Vec::new(alloc);
@@ -160,7 +160,7 @@ pub(crate) fn read_cells(
     value: Option<&Value>,
 ) -> Result<Vec<Vec<Option<Atom>>>, ReadDocEnd>
     requires parts { length parts.now ≡ length schema.now.objects }
-    requires few { All (λ count. count ≤ 1000000) parts.now }
+    requires few { All (λ count. count ≤ most_parts) parts.now }
     ensures { Gives (λ lists. map (λ list. list.items) lists.items) result
         (spec.read_cells (signature_of schema.now) blanks parts.now (option_map (λ value. view value.now) value.entry)) }
 {

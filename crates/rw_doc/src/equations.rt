@@ -3,6 +3,7 @@
 ghost use Rattle.std.specs.Prelude.{◌≡◌, ◌<◌, ◌≤◌, ◌&&◌, true, IfOk, length, map, nat_le, option_map, option_and_then};
 ghost use Rattle.std.specs.List.{list_all};
 ghost use Rattle.serde_json.specs.View.{view};
+ghost use Rattle.rw_schema.specs.Limits.{most_objects, most_arrows, most_equations};
 ghost use Rattle.rw_schema.specs.SchemaFaults.{has_arrows};
 ghost use Rattle.rw_doc.specs.Chain.{each_in};
 ghost use Rattle.rw_doc.specs.Gives.{Gives};
@@ -17,6 +18,7 @@ use crate::objects::object_named;
 use crate::{DocFault, ReadDocEnd};
 use rw_schema::{
     ArrowDef, ArrowId, Equation, LONGEST_PATH, MOST_EQUATIONS, ObjectId, Path, Section, Text,
+    do_sides_meet,
 };
 use serde_json::Value;
 use std::alloc::Global;
@@ -87,7 +89,7 @@ fn text_in(value: &Value) -> &str
 
 /// The arrow with the name that the value is.
 fn arrow_at(fault: DocFault, arrows: &[ArrowDef], value: &Value) -> Result<ArrowId, ReadDocEnd>
-    requires { length arrows.now ≤ 256 }
+    requires { length arrows.now ≤ most_arrows }
     ensures { Gives (λ arrow. arrow) result (spec.arrow_named fault arrows.now (text_of (view value.now))) }
 {
     arrow_named(fault, arrows, text_in(value))
@@ -100,7 +102,7 @@ fn arrows_at(
     arrows: &[ArrowDef],
     names: &[Value],
 ) -> Result<Vec<ArrowId>, ReadDocEnd>
-    requires { length arrows.now ≤ 256 }
+    requires { length arrows.now ≤ most_arrows }
     ensures { Gives (λ found. found.items) result (each_in (λ place name. spec.arrow_named fault arrows.now (text_of name)) 0 (map view names.now)) }
 {
     let mut found = Vec::new(alloc);
@@ -118,7 +120,7 @@ fn path_of(
     arrows: &[ArrowDef],
     names: &[Value],
 ) -> Result<Path, ReadDocEnd>
-    requires { length arrows.now ≤ 256 }
+    requires { length arrows.now ≤ most_arrows }
     ensures gives { Gives (λ path. path) result (spec.path_named fault arrows.now (map text_of (map view names.now))) }
     ensures known { IfOk result (λ path. has_arrows (length arrows.now) path ≡ true) }
 {
@@ -134,8 +136,8 @@ fn read_equation(
     place: u32,
     value: &Value,
 ) -> Result<Equation, ReadDocEnd>
-    requires objects { length objects.now ≤ 64 }
-    requires arrows { length arrows.now ≤ 256 }
+    requires objects { length objects.now ≤ most_objects }
+    requires arrows { length arrows.now ≤ most_arrows }
     ensures { Gives (λ equation. equation) result (spec.read_equation objects.now arrows.now place (view value.now)) }
 {
     let Some(texts) = equation_texts(value) else {
@@ -166,9 +168,9 @@ fn equations_of(
     arrows: &[ArrowDef],
     items: &[Value],
 ) -> Result<Vec<Equation>, ReadDocEnd>
-    requires objects { length objects.now ≤ 64 }
-    requires arrows { length arrows.now ≤ 256 }
-    requires items { length items.now ≤ 256 }
+    requires objects { length objects.now ≤ most_objects }
+    requires arrows { length arrows.now ≤ most_arrows }
+    requires items { length items.now ≤ most_equations }
     ensures { Gives (λ equations. equations.items) result (each_in (spec.read_equation objects.now arrows.now) 0 (map view items.now)) }
 {
     let mut equations = Vec::new(alloc);
@@ -186,8 +188,8 @@ pub(crate) fn read_equations(
     arrows: &[ArrowDef],
     value: Option<&Value>,
 ) -> Result<Vec<Equation>, ReadDocEnd>
-    requires objects { length objects.now ≤ 64 }
-    requires arrows { length arrows.now ≤ 256 }
+    requires objects { length objects.now ≤ most_objects }
+    requires arrows { length arrows.now ≤ most_arrows }
     ensures { Gives (λ equations. equations.items) result (spec.read_equations objects.now arrows.now (option_map (λ value. view value.now) value.entry)) }
 {
     let items = read_list_or_none(Section::Equations, MOST_EQUATIONS, value)?;

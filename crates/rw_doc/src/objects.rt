@@ -4,6 +4,7 @@ ghost use Rattle.std.specs.Prelude.{◌≡◌, ◌<◌, ◌≤◌, [], IfOk, len
 ghost use Rattle.std.specs.List.{list_any};
 ghost use Rattle.std.specs.Str.{bytes_eq};
 ghost use Rattle.serde_json.specs.View.{view};
+ghost use Rattle.rw_schema.specs.Limits.{most_objects};
 ghost use Rattle.rw_schema.specs.SchemaFaults.{is_name};
 ghost use Rattle.rw_doc.specs.Chain.{each_after};
 ghost use Rattle.rw_doc.specs.Gives.{Gives};
@@ -43,7 +44,7 @@ pub(crate) fn object_named(
     objects: &[Text],
     name: &str,
 ) -> Result<ObjectId, ReadDocEnd>
-    requires { length objects.now ≤ 64 }
+    requires { length objects.now ≤ most_objects }
     ensures { Gives (λ object. object) result (spec.object_named fault objects.now name.now) }
 {
     match place_of(objects, name) {
@@ -54,7 +55,7 @@ pub(crate) fn object_named(
 
 /// The object that the value is, behind these.
 fn read_object(alloc: Global, before: &[Text], value: &Value) -> Result<Text, ReadDocEnd>
-    requires { length before.now < 64 }
+    requires { length before.now < most_objects }
     ensures { Gives (λ object. object) result (spec.read_object before.now (view value.now)) }
 {
     let place = before.len() as u32;
@@ -72,9 +73,9 @@ fn read_object(alloc: Global, before: &[Text], value: &Value) -> Result<Text, Re
 
 /// The objects that the values are.
 fn objects_of(alloc: Global, items: &[Value]) -> Result<Vec<Text>, ReadDocEnd>
-    requires { length items.now ≤ 64 }
+    requires { length items.now ≤ most_objects }
     ensures gives { Gives (λ objects. objects.items) result (each_after spec.read_object [] (map view items.now)) }
-    ensures few { IfOk result (λ objects. length objects.items ≤ 64) }
+    ensures few { IfOk result (λ objects. length objects.items ≤ most_objects) }
 {
     let mut objects = Vec::new(alloc);
     for item in items {
@@ -87,7 +88,7 @@ fn objects_of(alloc: Global, items: &[Value]) -> Result<Vec<Text>, ReadDocEnd>
 /// The objects of a schema.
 pub(crate) fn read_objects(alloc: Global, value: &Value) -> Result<Vec<Text>, ReadDocEnd>
     ensures gives { Gives (λ objects. objects.items) result (spec.read_objects (view value.now)) }
-    ensures few { IfOk result (λ objects. length objects.items ≤ 64) }
+    ensures few { IfOk result (λ objects. length objects.items ≤ most_objects) }
 {
     let items = read_list(Section::Objects, MOST_OBJECTS, value)?;
     objects_of(alloc, items)

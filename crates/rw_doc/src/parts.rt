@@ -3,6 +3,7 @@
 ghost use Rattle.std.specs.Prelude.{◌≡◌, ◌≤◌, IfOk, length, map, replicate};
 ghost use Rattle.std.specs.List.{range_with_len};
 ghost use Rattle.serde_json.specs.View.{view};
+ghost use Rattle.rw_schema.specs.Limits.{most_objects};
 ghost use Rattle.rw_schema.specs.Presentation.{signature_of};
 ghost use Rattle.rw_doc.specs.Chain.{each_in};
 ghost use Rattle.rw_doc.specs.Gives.{Gives};
@@ -11,13 +12,11 @@ ghost use Rattle.rw_doc.specs.Instances as spec;
 use crate::ReadDocEnd;
 use crate::faults::{fault_of, refused_at};
 use crate::json::count_of;
+use crate::limits::MOST_PARTS;
 use crate::lists::{items_of, with_length};
 use rw_schema::{OutOfMemory, Schema, Section};
 use serde_json::Value;
 use std::alloc::Global;
-
-/// The greatest number of parts of an object.
-const MOST_PARTS: u64 = 1_000_000;
 
 /// The number of an object's parts.
 fn read_part_count(object: u32, value: &Value) -> Result<u32, ReadDocEnd>
@@ -26,7 +25,7 @@ fn read_part_count(object: u32, value: &Value) -> Result<u32, ReadDocEnd>
     let Some(count) = count_of(value) else {
         return Err(refused_at(2, Section::Parts, object, 0));
     };
-    if count <= MOST_PARTS {
+    if count <= MOST_PARTS as u64 {
         Ok(count as u32)
     } else {
         Err(refused_at(4, Section::Parts, object, 0))
@@ -35,7 +34,7 @@ fn read_part_count(object: u32, value: &Value) -> Result<u32, ReadDocEnd>
 
 /// The number that each value is.
 fn part_counts(alloc: Global, items: &[Value]) -> Result<Vec<u32>, ReadDocEnd>
-    requires { length items.now ≤ 64 }
+    requires { length items.now ≤ most_objects }
     ensures { Gives (λ counts. counts.items) result (each_in spec.read_part_count 0 (map view items.now)) }
 {
     let mut counts = Vec::new(alloc);

@@ -3,12 +3,14 @@
 ghost use Rattle.std.specs.Prelude.{◌≡◌, ◌<◌, ◌≤◌, IfOk, length, map, slice_index};
 ghost use Rattle.std.specs.List.{All};
 ghost use Rattle.serde_json.specs.View.{view};
+ghost use Rattle.rw_schema.specs.Limits.{most_arrows};
 ghost use Rattle.rw_schema.specs.Presentation.{signature_of};
 ghost use Rattle.rw_schema.specs.Signature.{source_of};
 ghost use Rattle.rw_spec.specs.Ends.{target_of};
 ghost use Rattle.rw_doc.specs.Chain.{each_in};
 ghost use Rattle.rw_doc.specs.Gives.{Gives};
 ghost use Rattle.rw_doc.specs.Instances as spec;
+ghost use Rattle.rw_doc.specs.Limits.{most_parts};
 
 use crate::ReadDocEnd;
 use crate::faults::{fault_at, fault_of, refused_at};
@@ -57,7 +59,7 @@ fn images_of(
     arrow: u32,
     items: &[Value],
 ) -> Result<Vec<u32>, ReadDocEnd>
-    requires { length items.now ≤ 1000000 }
+    requires { length items.now ≤ most_parts }
     ensures { Gives (λ images. images.items) result (each_in (spec.read_image targets arrow) 0 (map view items.now)) }
 {
     let mut images = Vec::new(alloc);
@@ -78,7 +80,7 @@ fn read_row(
 ) -> Result<Vec<u32>, ReadDocEnd>
     requires arrow { arrow.0 < length schema.now.arrows }
     requires parts { length parts.now ≡ length schema.now.objects }
-    requires few { All (λ count. count ≤ 1000000) parts.now }
+    requires few { All (λ count. count ≤ most_parts) parts.now }
     ensures { Gives (λ images. images.items) result (spec.read_row (signature_of schema.now) parts.now arrow.0 (view value.now)) }
 {
     let count = source_parts(schema, parts, arrow);
@@ -97,9 +99,9 @@ fn row_lists(
     items: &[Value],
 ) -> Result<Vec<Vec<u32>>, ReadDocEnd>
     requires items { length items.now ≡ length schema.now.arrows }
-    requires arrows { length schema.now.arrows ≤ 256 }
+    requires arrows { length schema.now.arrows ≤ most_arrows }
     requires parts { length parts.now ≡ length schema.now.objects }
-    requires few { All (λ count. count ≤ 1000000) parts.now }
+    requires few { All (λ count. count ≤ most_parts) parts.now }
     ensures { Gives (λ rows. map (λ row. row.items) rows.items) result (each_in (spec.read_row (signature_of schema.now) parts.now) 0 (map view items.now)) }
 {
     let mut rows = Vec::new(alloc);
@@ -118,7 +120,7 @@ pub(crate) fn read_rows(
     value: &Value,
 ) -> Result<Vec<Vec<u32>>, ReadDocEnd>
     requires parts { length parts.now ≡ length schema.now.objects }
-    requires few { All (λ count. count ≤ 1000000) parts.now }
+    requires few { All (λ count. count ≤ most_parts) parts.now }
     ensures { Gives (λ rows. map (λ row. row.items) rows.items) result (spec.read_rows (signature_of schema.now) parts.now (view value.now)) }
 {
     let fault = fault_of(2, Section::Rows);
