@@ -22,7 +22,7 @@ mod wants;
 
 pub use entry::{Entry, WrittenEntry};
 pub use maps::read_map;
-pub use objects::{marks_named, texts_or_none};
+pub use objects::{read_monic, texts_or_none};
 pub use patterns::{PatternRead, read_bare_pattern, read_pattern};
 pub use sets::{RightRead, read_right};
 pub use term::WrittenTerm;
