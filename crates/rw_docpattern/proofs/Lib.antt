@@ -1,8 +1,12 @@
 pub mod BareFaults
+pub mod Codes
 pub mod DraftSteps
 pub mod DraftTurns
 pub mod FirstPlaces
+pub mod MapCodes
 pub mod Marks
+pub mod PatternCodes
+pub mod Somewhere
 pub mod SoundCells
 pub mod SoundDrafts
 pub mod TermLevels
