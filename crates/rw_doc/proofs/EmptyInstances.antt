@@ -6,7 +6,7 @@ use Rattle.rw_schema.specs.Signature.{Signature}
 use Rattle.rw_spec.specs.Instance.{instance_of}
 use Rattle.rw_table.specs.TableFaults.{failure_of, table_fault}
 use Rattle.rw_doc.specs.Instances.{rows_of, empty_instance}
-use Rattle.rw_schema.proofs.Firsts.{none_first}
+use Rattle.rw_schema.proofs.Firsts.{none_from}
 use Rattle.rw_doc.proofs.PartLists.{AreLists, names_at, only_equations_fail}
 
 -- what stands at each place of a list of one thing, or behind it
@@ -33,5 +33,5 @@ nothing_fails C =
     let parts = replicate C.objects 0 in
     let rows = rows_of parts (replicate (length C.arrows) []) (replicate (length C.attributes) []) in
     only_equations_fail C parts (replicate (length C.arrows) []) (replicate (length C.attributes) []) (no_parts C)
-    ∙ none_first (failure_of (instance_of C rows)) 0 C.equations
+    ∙ none_from (failure_of (instance_of C rows)) 0 C.equations
     (λ k equation there. rw (names_at parts equation.object.0, at_each {A = ℕ} C.objects equation.object.0 0) refl)

@@ -1,15 +1,14 @@
 -- Lists without a fault.
-use Rattle.std.proofs.Common.{◌≡◌, ℕ, suc, ◌+◌, ◌<◌, Bool, true, false, Option, Some, None, List, [], ◌∷◌, ◌++◌, length, take, slice_get, refl, add-zero, zero-add, arith, sym}
+use Rattle.std.proofs.Common.{◌≡◌, ℕ, suc, ◌+◌, ◌<◌, true, false, Option, None, List, [], ◌∷◌, ◌++◌, length, take, refl, add-zero, zero-add, arith, sym}
 use Rattle.std.specs.List.{list_all, list_any}
 use Rattle.std.specs.Str.{bytes_eq}
-use Rattle.std.proofs.lemmas.Bool.{and_parts}
 use Rattle.std.proofs.lemmas.List.{take-append-le, take_at}
 use Rattle.std.proofs.lemmas.List.Folds.{list_all-append}
 use Rattle.std.proofs.lemmas.Option.{slice_get_within}
-use Rattle.rw_schema.specs.First.{first_in, fault_unless}
+use Rattle.rw_schema.specs.First.{first_in}
 use Rattle.rw_schema.specs.SchemaFaults.{is_name, first_twice}
 use Rattle.rw_schema.specs.declared.section.Section.{Section}
-use Rattle.rw_schema.proofs.Firsts.{or_else_none, first_none, none_from, none_unless}
+use Rattle.rw_schema.proofs.Firsts.{or_else_none, first_none, none_from}
 use Rattle.rw_schema.proofs.Schemas.{twice_at}
 
 -- the first fault of two lists, one behind the other

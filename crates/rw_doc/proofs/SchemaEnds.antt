@@ -1,11 +1,10 @@
 -- The ends of a schema's arrows and attributes, in its signature.
-use Rattle.std.proofs.Common.{◌≡◌, ◌∙◌, ℕ, Some, map, ap, slice_get, option_map}
-use Rattle.std.proofs.lemmas.Option.{slice_get-map, get_or_from_slice_get}
+use Rattle.std.proofs.Common.{◌≡◌, ◌∙◌, ℕ, Some, ap, slice_get, option_map}
+use Rattle.std.proofs.lemmas.Option.{slice_get-map}
 use Rattle.rw_schema.specs.declared.parts.ArrowDef.{ArrowDef}
 use Rattle.rw_schema.specs.declared.parts.AttrDef.{AttrDef}
-use Rattle.rw_schema.specs.declared.signature.ArrowEnds.{ArrowEnds}
 use Rattle.rw_schema.specs.Presentation.{Presentation, signature_of, ends_of_arrow, ends_of_attribute}
-use Rattle.rw_schema.specs.Signature.{Signature, source_of, holder_of}
+use Rattle.rw_schema.specs.Signature.{source_of, holder_of}
 use Rattle.rw_spec.specs.Ends.{target_of}
 use Rattle.rw_spec.proofs.Signatures.{source_is, holder_is, target_is}
 

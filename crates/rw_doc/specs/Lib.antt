@@ -1,4 +1,5 @@
 pub mod Chain
+pub mod Entries
 pub mod Faults
 pub mod Gives
 pub mod Instances

@@ -16,7 +16,7 @@ use crate::lists::{items_of, read_list_or_none};
 use crate::objects::object_named;
 use crate::{DocFault, ReadDocEnd};
 use rw_schema::{
-    ArrowDef, ArrowId, Equation, LONGEST_PATH, MOST_EQUATIONS, ObjectId, Path, Section, Text,
+    ArrowDef, ArrowId, Equation, LONGEST_PATH, MOST_EQUATIONS, ObjectId, Path, Section, Text, do_sides_meet,
 };
 use serde_json::Value;
 use std::alloc::Global;
