@@ -20,10 +20,10 @@ use Rattle.rw_doc.specs.Entries.{no_code}
 use Rattle.rw_doc.specs.Numbers.{as_number_lists}
 use Rattle.rw_doc.specs.Pieces.{fault_in}
 use Rattle.rw_docpattern.specs.Codes.{TellsLeast, row}
-use Rattle.rw_docpattern.specs.MapCodes.{BreaksSquare, FirstMapFault, FirstMonicFault, HasImageBeyond, HasOtherImages, MonicHas}
-use Rattle.rw_docpattern.specs.Maps.{code_of}
+use Rattle.rw_docpattern.specs.MapCodes.{BreaksSquare, FirstMapFault, FirstMonicFault, HasImageBeyond, HasOtherImages, ImagesHave, MapHas, MonicHas}
+use Rattle.rw_docpattern.specs.Maps.{code_of, read_map}
 use Rattle.rw_docpattern.specs.Objects.{marks_of, object_named}
-use Rattle.rw_docpattern.proofs.Codes.{IsFrom, from_none, from_row, here, past, tells_checked, tells_none}
+use Rattle.rw_docpattern.proofs.Codes.{IsFrom, from_none, from_row, here, past, tells_none}
 use Rattle.rw_docpattern.proofs.Somewhere.{any_missing, none_missing}
 
 -- ---- the first fault of a list stands at a place
@@ -119,41 +119,7 @@ square_passes C from to images none has =
     let never : true ≡ false = sym passes ∙ has.6 in
     cc
 
--- ---- maps
-
--- the reading of images, by their shape and by the first fault of each kind
-abbrev map_with : Piece → List (List ℕ) → Bool → Option MapFault → Option MapFault → Result (List (List ℕ)) DocFault
-map_with piece images shape image square =
-    unfaulted (option_map (λ fault. fault_in piece (code_of fault)) (or_else (fault_unless shape Shape) (or_else image square))) images
-
--- squares tell code 11
-squares_tell : (C : Signature) (piece : Piece) (from to : PatternLists) (images : List (List ℕ)) (square : Option MapFault) → first_in (square_fault from to images) 0 C.arrows ≡ square
-    → TellsLeast piece (row 11 (BreaksSquare C from to images) no_code) (map_with piece images true None square)
-squares_tell C piece from to images None is = past piece 11 (BreaksSquare C from to images) no_code (Ok images) (square_passes C from to images is) (tells_none piece images)
-squares_tell C piece from to images (Some fault) is =
-    let found = square_found C from to images fault is in
-    rw found.0 (here piece 11 11 (BreaksSquare C from to images) no_code (omega arith) (from_none 11) found.1)
-
--- no row of squares is below 8
-from_squares : (Condition : Type 0) → IsFrom 8 (row 11 Condition no_code)
-from_squares Condition other less (inl has) = let same : other ≡ 11 = has.0 in omega arith
-from_squares Condition other less (inr has) = has
-
--- images tell code 8, and then squares code 11
-images_tell : (C : Signature) (piece : Piece) (from to : PatternLists) (images : List (List ℕ)) (image : Option MapFault) → first_in (image_fault to images) 0 from.sizes ≡ image
-    → TellsLeast piece (row 8 (HasImageBeyond from to images) (row 11 (BreaksSquare C from to images) no_code))
-    (map_with piece images true image (first_in (square_fault from to images) 0 C.arrows))
-images_tell C piece from to images None is =
-    past piece 8 (HasImageBeyond from to images) (row 11 (BreaksSquare C from to images) no_code) _ (image_passes from to images is)
-    (squares_tell C piece from to images (first_in (square_fault from to images) 0 C.arrows) refl)
-images_tell C piece from to images (Some fault) is =
-    let found = image_found from to images fault is in
-    rw found.0 (here piece 8 8 (HasImageBeyond from to images) (row 11 (BreaksSquare C from to images) no_code) (omega arith) (from_squares (BreaksSquare C from to images)) found.1)
-
--- no row of images is below 2
-from_images : (One Other : Type 0) → IsFrom 2 (row 8 One (row 11 Other no_code))
-from_images One Other other less (inl has) = let same : other ≡ 8 = has.0 in omega arith
-from_images One Other other less (inr has) = from_squares Other other (omega arith) has
+-- ---- maps, and what is made of them
 
 -- a test that failed did not pass
 never_passed : (test : Bool) → test ≡ true → test ≡ false → ⊥
@@ -165,42 +131,91 @@ neither : {A B : Type 0} → (A → ⊥) → (B → ⊥) → A ⊎ B → ⊥
 neither one other (inl a) = one a
 neither one other (inr b) = other b
 
--- the shape tells code 2
-shape_tells : (C : Signature) (piece : Piece) (from to : PatternLists) (images : List (List ℕ)) (shape : Bool) → has_map_shape from images ≡ shape → length images ≡ C.objects
-    → TellsLeast piece (row 2 (HasOtherImages C from images) (row 8 (HasImageBeyond from to images) (row 11 (BreaksSquare C from to images) no_code)))
-    (map_with piece images shape (first_in (image_fault to images) 0 from.sizes) (first_in (square_fault from to images) 0 C.arrows))
-shape_tells C piece from to images true is long =
-    past piece 2 (HasOtherImages C from images) (row 8 (HasImageBeyond from to images) (row 11 (BreaksSquare C from to images) no_code)) _
-    (neither (λ other. other long) (never_passed (has_map_shape from images) is))
-    (images_tell C piece from to images (first_in (image_fault to images) 0 from.sizes) refl)
-shape_tells C piece from to images false is long =
-    here piece 2 2 (HasOtherImages C from images) (row 8 (HasImageBeyond from to images) (row 11 (BreaksSquare C from to images) no_code)) (omega arith)
-    (from_images (HasImageBeyond from to images) (BreaksSquare C from to images)) (inr is)
+-- a reading of images between two patterns, and what is made of it, whose codes are from 11 on
+module _ {B : Type 0} (C : Signature) (piece : Piece) (from to : PatternLists) (Others : ℕ → Type 0) (last : List (List ℕ) → Result B DocFault) (above : IsFrom 11 Others) where
+  -- what is made of the images, by their shape and by the first fault of each kind
+  abbrev map_with : List (List ℕ) → Bool → Option MapFault → Option MapFault → Result B DocFault
+  map_with images shape image square =
+      and_then (unfaulted (option_map (λ fault. fault_in piece (code_of fault)) (or_else (fault_unless shape Shape) (or_else image square))) images) last
 
--- the number of lists tells code 2
-lists_tell : (C : Signature) (piece : Piece) (from to : PatternLists) (images : List (List ℕ)) (long : Bool) → (length images == C.objects) ≡ long
-    → TellsLeast piece (row 2 (HasOtherImages C from images) (row 8 (HasImageBeyond from to images) (row 11 (BreaksSquare C from to images) no_code)))
-    (checked (fault_in piece 2) long (unfaulted (option_map (λ fault. fault_in piece (code_of fault)) (map_fault C from to images)) images))
-lists_tell C piece from to images true is = shape_tells C piece from to images (has_map_shape from images) refl (eqb-true (length images) C.objects is)
-lists_tell C piece from to images false is =
-    here piece 2 2 (HasOtherImages C from images) (row 8 (HasImageBeyond from to images) (row 11 (BreaksSquare C from to images) no_code)) (omega arith)
-    (from_images (HasImageBeyond from to images) (BreaksSquare C from to images)) (inl (λ same. omega (arith, is)))
+  -- the rows of squares, and those of images
+  abbrev Squares : List (List ℕ) → ℕ → Type 0
+  Squares images = row 11 (BreaksSquare C from to images) Others
 
--- lists of numbers, or something else
-map_tells_of : (C : Signature) (piece : Piece) (from to : PatternLists) (found : Option (List (List ℕ)))
-    → TellsLeast piece (row 2 (found ≡ None) (row 2 (IsSomeAnd found (HasOtherImages C from)) (row 8 (IsSomeAnd found (HasImageBeyond from to))
-    (row 11 (IsSomeAnd found (BreaksSquare C from to)) no_code))))
-    (and_then (some_or (fault_in piece 2) found) (λ images. checked (fault_in piece 2) (length images == C.objects)
-    (unfaulted (option_map (λ fault. fault_in piece (code_of fault)) (map_fault C from to images)) images)))
-map_tells_of C piece from to None =
-    here piece 2 2 (None ≡ None) (row 2 ⊥ (row 8 ⊥ (row 11 ⊥ no_code))) (omega arith) (from_row 2 2 ⊥ (row 8 ⊥ (row 11 ⊥ no_code)) (omega arith) (from_images ⊥ ⊥)) refl
-map_tells_of C piece from to (Some images) =
-    past piece 2 (Some images ≡ None) (row 2 (HasOtherImages C from images) (row 8 (HasImageBeyond from to images) (row 11 (BreaksSquare C from to images) no_code))) _ (λ none. cc)
-    (lists_tell C piece from to images (length images == C.objects) refl)
+  abbrev Images : List (List ℕ) → ℕ → Type 0
+  Images images = row 8 (HasImageBeyond from to images) (Squares images)
+
+  -- squares tell code 11
+  squares_tell : (images : List (List ℕ)) (square : Option MapFault) → first_in (square_fault from to images) 0 C.arrows ≡ square → TellsLeast piece Others (last images)
+      → TellsLeast piece (Squares images) (map_with images true None square)
+  squares_tell images None is later = past piece 11 (BreaksSquare C from to images) Others (last images) (square_passes C from to images is) later
+  squares_tell images (Some fault) is later =
+      let found = square_found C from to images fault is in
+      rw found.0 (here piece 11 11 (BreaksSquare C from to images) Others (omega arith) above found.1)
+
+  -- no row of them is below the first
+  from_squares : (images : List (List ℕ)) → IsFrom 11 (Squares images)
+  from_squares images = from_row 11 11 (BreaksSquare C from to images) Others (omega arith) above
+
+  from_images : (images : List (List ℕ)) → IsFrom 8 (Images images)
+  from_images images = from_row 8 11 (HasImageBeyond from to images) (Squares images) (omega arith) (from_squares images)
+
+  -- images tell code 8, and then squares code 11
+  images_tell : (images : List (List ℕ)) (image : Option MapFault) → first_in (image_fault to images) 0 from.sizes ≡ image → TellsLeast piece Others (last images)
+      → TellsLeast piece (Images images) (map_with images true image (first_in (square_fault from to images) 0 C.arrows))
+  images_tell images None is later =
+      past piece 8 (HasImageBeyond from to images) (Squares images) _ (image_passes from to images is)
+      (squares_tell images (first_in (square_fault from to images) 0 C.arrows) refl later)
+  images_tell images (Some fault) is later =
+      let found = image_found from to images fault is in
+      rw found.0 (here piece 8 11 (HasImageBeyond from to images) (Squares images) (omega arith) (from_squares images) found.1)
+
+  -- the shape tells code 2
+  shape_tells : (images : List (List ℕ)) (shape : Bool) → has_map_shape from images ≡ shape → length images ≡ C.objects → TellsLeast piece Others (last images)
+      → TellsLeast piece (row 2 (HasOtherImages C from images) (Images images))
+      (map_with images shape (first_in (image_fault to images) 0 from.sizes) (first_in (square_fault from to images) 0 C.arrows))
+  shape_tells images true is long later =
+      past piece 2 (HasOtherImages C from images) (Images images) _ (neither (λ other. other long) (never_passed (has_map_shape from images) is))
+      (images_tell images (first_in (image_fault to images) 0 from.sizes) refl later)
+  shape_tells images false is long later = here piece 2 8 (HasOtherImages C from images) (Images images) (omega arith) (from_images images) (inr is)
+
+  -- the number of lists tells code 2
+  lists_tell : (images : List (List ℕ)) (long : Bool) → (length images == C.objects) ≡ long → TellsLeast piece Others (last images)
+      → TellsLeast piece (row 2 (HasOtherImages C from images) (Images images))
+      (and_then (checked (fault_in piece 2) long (unfaulted (option_map (λ fault. fault_in piece (code_of fault)) (map_fault C from to images)) images)) last)
+  lists_tell images true is later = shape_tells images (has_map_shape from images) refl (eqb-true (length images) C.objects is) later
+  lists_tell images false is later =
+      here piece 2 8 (HasOtherImages C from images) (Images images) (omega arith) (from_images images) (inl (λ same. omega (arith, is)))
+
+-- lists of numbers, or something else, and what is made of them
+images_then : {B : Type 0} (C : Signature) (piece : Piece) (from to : PatternLists) (Others : ℕ → Type 0) (last : List (List ℕ) → Result B DocFault) → IsFrom 11 Others
+    → (found : Option (List (List ℕ))) → ((images : List (List ℕ)) → found ≡ Some images → TellsLeast piece Others (last images))
+    → TellsLeast piece (ImagesHave C from to Others found)
+    (and_then (and_then (some_or (fault_in piece 2) found) (λ images. checked (fault_in piece 2) (length images == C.objects)
+    (unfaulted (option_map (λ fault. fault_in piece (code_of fault)) (map_fault C from to images)) images))) last)
+images_then C piece from to Others last above None later =
+    here piece 2 2 (None ≡ None) (row 2 ⊥ (row 8 ⊥ (row 11 ⊥ Others))) (omega arith)
+    (from_row 2 8 ⊥ (row 8 ⊥ (row 11 ⊥ Others)) (omega arith) (from_row 8 11 ⊥ (row 11 ⊥ Others) (omega arith) (from_row 11 11 ⊥ Others (omega arith) above))) refl
+images_then C piece from to Others last above (Some images) later =
+    past piece 2 (Some images ≡ None) (row 2 (HasOtherImages C from images) (row 8 (HasImageBeyond from to images) (row 11 (BreaksSquare C from to images) Others))) _ (λ none. cc)
+    (lists_tell C piece from to Others last above images (length images == C.objects) refl (later images refl))
+
+-- a map between patterns, and what is made of it
+pub map_then : {B : Type 0} (C : Signature) (piece : Piece) (from to : PatternLists) (Others : ℕ → Type 0) (last : List (List ℕ) → Result B DocFault) → IsFrom 11 Others → (value : Data)
+    → ((images : List (List ℕ)) → as_number_lists value ≡ Some images → TellsLeast piece Others (last images))
+    → TellsLeast piece (ImagesHave C from to Others (as_number_lists value)) (and_then (read_map C piece from to value) last)
+map_then C piece from to Others last above value = images_then C piece from to Others last above (as_number_lists value)
+
+-- nothing is made of a reading
+alone : {A : Type 0} (piece : Piece) (Has : ℕ → Type 0) (reading : Result A DocFault) → TellsLeast piece Has (and_then reading (λ x. Ok x)) → TellsLeast piece Has reading
+alone piece Has (Ok x) told = told
+alone piece Has (Err fault) told = told
 
 -- maps between patterns
 pub map_tells : FirstMapFault
-map_tells C piece from to value = map_tells_of C piece from to (as_number_lists value)
+map_tells C piece from to value =
+    alone piece (MapHas C from to value) (read_map C piece from to value)
+    (map_then C piece from to no_code (λ images. Ok images) (from_none 11) value (λ images is. tells_none piece images))
 
 -- ---- monic objects
 

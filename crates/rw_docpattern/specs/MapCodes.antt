@@ -1,5 +1,5 @@
 -- What may be wrong with the map that a value is, and with the objects that are listed, by the codes of docs/FORMAT.md.
-use Rattle.std.specs.Prelude.{◌≡◌, ◌≤◌, ◌⊎◌, ◌≢◌, ℕ, false, Any, length, List, Some, None, IsSomeAnd, slice_get}
+use Rattle.std.specs.Prelude.{◌≡◌, ◌≤◌, ◌⊎◌, ◌≢◌, ℕ, false, Any, length, List, Option, Some, None, IsSomeAnd, slice_get}
 use Rattle.serde_json.specs.Data.{Data}
 use Rattle.rw_schema.specs.declared.signature.ArrowEnds.{ArrowEnds}
 use Rattle.rw_schema.specs.RowLists.{list_at}
@@ -28,14 +28,18 @@ BreaksSquare C from to images =
     (arrow : ℕ) × (ends : ArrowEnds) × (part : ℕ) × (value : ℕ) × (slice_get C.arrows arrow ≡ Some ends) × (slice_get (list_at from.rows arrow) part ≡ Some value)
     × (commutes_at to images arrow ends part value ≡ false)
 
--- what may be wrong with a map from the one pattern to the other
+-- what may be wrong with a map from the one pattern to the other, by its lists of images, and what else may be
+abbrev pub ImagesHave : Signature → PatternLists → PatternLists → (ℕ → Type 0) → Option (List (List ℕ)) → ℕ → Type 0
+ImagesHave C from to Others images =
+    row 2 (images ≡ None)
+    (row 2 (IsSomeAnd images (HasOtherImages C from))
+    (row 8 (IsSomeAnd images (HasImageBeyond from to))
+    (row 11 (IsSomeAnd images (BreaksSquare C from to))
+    Others)))
+
+-- what may be wrong with the map that a value is
 abbrev pub MapHas : Signature → PatternLists → PatternLists → Data → ℕ → Type 0
-MapHas C from to value =
-    row 2 (as_number_lists value ≡ None)
-    (row 2 (IsSomeAnd (as_number_lists value) (HasOtherImages C from))
-    (row 8 (IsSomeAnd (as_number_lists value) (HasImageBeyond from to))
-    (row 11 (IsSomeAnd (as_number_lists value) (BreaksSquare C from to))
-    no_code)))
+MapHas C from to value = ImagesHave C from to no_code (as_number_lists value)
 
 abbrev pub FirstMapFault : Type 0
 FirstMapFault = (C : Signature) (piece : Piece) (from to : PatternLists) (value : Data) → TellsLeast piece (MapHas C from to value) (read_map C piece from to value)
