@@ -20,18 +20,22 @@ pub from_row : (code next : ℕ) (Condition : Type 0) (Others : ℕ → Type 0) 
 from_row code next Condition Others order others other less (inl has) = let same : other ≡ code = has.0 in omega arith
 from_row code next Condition Others order others other less (inr has) = others other (omega arith) has
 
--- a reading behind a condition that does not hold
-pub past : {A : Type 0} (piece : Piece) (code : ℕ) (Condition : Type 0) (Others : ℕ → Type 0) (reading : Result A DocFault)
-    → (Condition → ⊥) → TellsLeast piece Others reading → TellsLeast piece (row code Condition Others) reading
-past piece code Condition Others (Ok x) never none other (inl has) = never has.1
-past piece code Condition Others (Ok x) never none other (inr has) = none other has
-past piece code Condition Others (Err fault) never told = record {
+-- a fault behind a condition that does not hold
+pub past_fault : (piece : Piece) (code : ℕ) (Condition : Type 0) (Others : ℕ → Type 0) (fault : DocFault)
+    → (Condition → ⊥) → IsFaultOf piece Others fault → IsFaultOf piece (row code Condition Others) fault
+past_fault piece code Condition Others fault never told = record {
   place = told.place;
   code = record {
     stands = inr told.code.stands;
     least = λ other less has. elim has [ inl here ↦ never here.1 | inr later ↦ told.code.least other less later ];
   };
 }
+
+-- a reading behind a condition that does not hold
+pub past : {A : Type 0} (piece : Piece) (code : ℕ) (Condition : Type 0) (Others : ℕ → Type 0) (reading : Result A DocFault)
+    → (Condition → ⊥) → TellsLeast piece Others reading → TellsLeast piece (row code Condition Others) reading
+past piece code Condition Others (Ok x) never none = λ other has. elim has [ inl here ↦ never here.1 | inr later ↦ none other later ]
+past piece code Condition Others (Err fault) never told = past_fault piece code Condition Others fault never told
 
 -- the condition's code is told where the condition holds
 pub here : (piece : Piece) (code next : ℕ) (Condition : Type 0) (Others : ℕ → Type 0) → code ≤ next → IsFrom next Others → Condition

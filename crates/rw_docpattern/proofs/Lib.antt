@@ -5,7 +5,9 @@ pub mod DraftTurns
 pub mod FirstPlaces
 pub mod MapCodes
 pub mod Marks
+pub mod NamedCodes
 pub mod PatternCodes
+pub mod PieceCodes
 pub mod Somewhere
 pub mod SoundCells
 pub mod SoundDrafts

@@ -1,7 +1,7 @@
 -- Readings of maps and of monic objects tell the least code of their tables.
-use Rattle.std.proofs.Common.{◌≡◌, ◌≤◌, ◌<◌, ◌==◌, ◌≢◌, ◌⊎◌, inl, inr, ◌+◌, ◌×◌, ℕ, zero, suc, Bool, true, false, nat_lt, length, Option, Some, None, option_map, IsSomeAnd, Result, Ok, Err, List, [], ◌∷◌, slice_get, refl, sym, ◌∙◌, ap, subst, arith, add-zero, zero-add}
+use Rattle.std.proofs.Common.{◌≡◌, ◌≤◌, ◌<◌, ◌==◌, ◌≢◌, ◌⊎◌, inl, inr, ◌+◌, ℕ, zero, suc, Bool, true, false, nat_lt, length, Option, Some, None, option_map, IsSomeAnd, Result, Ok, Err, List, [], ◌∷◌, slice_get, refl, sym, ◌∙◌, ap, subst, arith, add-zero, zero-add}
 use Rattle.std.specs.List.{Any}
-use Rattle.std.proofs.lemmas.Bool.{eqb-true}
+use Rattle.std.proofs.lemmas.Bool.{eqb-false, eqb-true, ltb-false, ltb-true}
 use Rattle.serde_json.specs.Data.{Data}
 use Rattle.rw_schema.specs.declared.ids.ObjectId.{ObjectId}
 use Rattle.rw_schema.specs.declared.signature.ArrowEnds.{ArrowEnds}
@@ -66,10 +66,6 @@ failed_unless false fault found is = let same : fault ≡ found = cc in (refl, s
 
 -- ---- images and squares
 
--- a number that is not less is not less
-not_less : (n m : ℕ) → nat_lt n m ≡ false → m ≤ n
-not_less n m fails = omega (arith, fails)
-
 -- the fault of an image has its code, and the image is none
 image_found : (from to : PatternLists) (images : List (List ℕ)) (fault : MapFault) → first_in (image_fault to images) 0 from.sizes ≡ Some fault
     → (code_of fault ≡ 8) × HasImageBeyond from to images
@@ -80,7 +76,7 @@ image_found from to images fault is =
     let f : ℕ → ℕ → Option MapFault = λ part image. fault_unless (nat_lt image (size_of to object)) (Range (record { 0 = object }) part) in
     let inner = found_at f 0 (list_at images object) fault here in
     let failed = failed_unless (nat_lt inner.item (size_of to object)) (Range (record { 0 = object }) (0 + inner.place)) fault inner.is in
-    (ap code_of (sym failed.1), (object, outer.item, inner.place, inner.item, outer.there, inner.there, not_less inner.item (size_of to object) failed.0))
+    (ap code_of (sym failed.1), (object, outer.item, inner.place, inner.item, outer.there, inner.there, ltb-false inner.item (size_of to object) failed.0))
 
 -- no image is none where none has a fault
 image_passes : (from to : PatternLists) (images : List (List ℕ)) → first_in (image_fault to images) 0 from.sizes ≡ None → HasImageBeyond from to images → ⊥
@@ -91,8 +87,9 @@ image_passes from to images none has =
     let inner : first_in f 0 (list_at images object) ≡ None = none_at (image_fault to images) from.sizes object has.1 none has.4 in
     let passes : nat_lt image (size_of to object) ≡ true =
     passed_unless (nat_lt image (size_of to object)) (Range (record { 0 = object }) has.2) (none_at f (list_at images object) has.2 image inner has.5) in
+    let below : image < size_of to object = ltb-true image (size_of to object) passes in
     let beyond : size_of to object ≤ image = has.6 in
-    omega (arith, passes)
+    omega arith
 
 -- the fault of a square has its code, and the map does not commute there
 square_found : (C : Signature) (from to : PatternLists) (images : List (List ℕ)) (fault : MapFault) → first_in (square_fault from to images) 0 C.arrows ≡ Some fault
@@ -185,7 +182,7 @@ module _ {B : Type 0} (C : Signature) (piece : Piece) (from to : PatternLists) (
       (and_then (checked (fault_in piece 2) long (unfaulted (option_map (λ fault. fault_in piece (code_of fault)) (map_fault C from to images)) images)) last)
   lists_tell images true is later = shape_tells images (has_map_shape from images) refl (eqb-true (length images) C.objects is) later
   lists_tell images false is later =
-      here piece 2 8 (HasOtherImages C from images) (Images images) (omega arith) (from_images images) (inl (λ same. omega (arith, is)))
+      here piece 2 8 (HasOtherImages C from images) (Images images) (omega arith) (from_images images) (inl (eqb-false (length images) C.objects is))
 
 -- lists of numbers, or something else, and what is made of them
 images_then : {B : Type 0} (C : Signature) (piece : Piece) (from to : PatternLists) (Others : ℕ → Type 0) (last : List (List ℕ) → Result B DocFault) → IsFrom 11 Others

@@ -1,13 +1,16 @@
 -- Readings of patterns tell the least code of their tables.
-use Rattle.std.proofs.Common.{◌≡◌, ◌⊎◌, ◌≢◌, inl, inr, ◌<◌, ◌≤◌, ◌&&◌, ℕ, Bool, true, false, nat_le, length, Option, Some, None, is_none, option_map, position, IsSomeAnd, Result, Ok, List, refl, ap, arith}
+use Rattle.std.proofs.Common.{◌≡◌, ◌⊎◌, ◌≢◌, inl, inr, ◌<◌, ◌≤◌, ◌&&◌, ℕ, Bool, true, false, nat_le, length, Option, Some, None, is_none, option_map, position, IsSomeAnd, Result, Ok, List, refl, sym, ◌∙◌, ap, arith}
 use Rattle.std.specs.List.{Any, list_all}
 use Rattle.std.specs.Str.{bytes_eq}
+use Rattle.std.proofs.lemmas.Bool.{leb-false, leb-true}
 use Rattle.serde_json.specs.Data.{Data}
 use Rattle.rw_schema.specs.declared.atom.Kind.{Kind}
 use Rattle.rw_schema.specs.declared.parts.AttrDef.{AttrDef}
 use Rattle.rw_schema.specs.Presentation.{Presentation, signature_of}
 use Rattle.rw_schema.specs.Signature.{Signature}
 use Rattle.rw_pattern.specs.declared.cell.PatternCell.{PatternCell}
+use Rattle.rw_pattern.specs.declared.cell.Want.{Want}
+use Rattle.rw_pattern.specs.declared.cell.Want.TheVariants as wants
 use Rattle.rw_pattern.specs.PatternFaults.{are_in_range, equation_fault, has_few_parts, has_shape, variable_fault}
 use Rattle.rw_terms.specs.OpTables.{OpEntry}
 use Rattle.rw_rule.specs.declared.set.SetCell.{SetCell}
@@ -19,15 +22,14 @@ use Rattle.rw_doc.specs.Entries.{no_code}
 use Rattle.rw_doc.specs.Pieces.{fault_in}
 use Rattle.rw_docpattern.specs.declared.entry.Entry.{Entry}
 use Rattle.rw_docpattern.specs.declared.entry.WrittenEntry.{WrittenEntry}
-use Rattle.rw_docpattern.specs.declared.term.WrittenTerm.{WrittenTerm}
-use Rattle.rw_docpattern.specs.declared.term.WrittenTerm.TheVariants.{Const, Var, Op}
+use Rattle.rw_docpattern.specs.declared.term.WrittenTerm.{WrittenTerm, WrittenTerm-F, fold-roll-WrittenTerm, ind-WrittenTerm, roll-WrittenTerm}
 use Rattle.rw_docpattern.specs.Codes.{TellsLeast, row}
 use Rattle.rw_docpattern.specs.Forms.{PatternForm, bare_keys, form_with, pattern_keys}
-use Rattle.rw_docpattern.specs.Patterns.{PatternRead, are_parts_there, bare_lists, cell_of, entries_named, entry_named, fits_atom, is_form_within, is_on_part, lists_with, read_entries, want_of, with_entries}
-use Rattle.rw_docpattern.specs.PatternCodes.{BreaksEquation, FirstBareFault, FirstPatternFault, FirstRightFault, FormHas, HasOperation, HasOtherAtom, HasOtherLengths, HasOtherName, HasOtherPart, HasOtherSet, HasOtherVariable, IsPastLimits, WantsHave, is_operation}
+use Rattle.rw_docpattern.specs.Patterns.{PatternRead, are_parts_there, bare_lists, cell_of, entries_named, entry_named, fits_atom, is_form_within, is_on_part, lists_with, read_entries, want_of, want_step, with_entries}
+use Rattle.rw_docpattern.specs.PatternCodes.{BreaksEquation, FirstBareFault, FirstPatternFault, FirstRightFault, FormHas, HasOperation, HasOtherAtom, HasOtherLengths, HasOtherName, HasOtherPart, HasOtherSet, HasOtherVariable, IsPastLimits, WantsHave, is_operation, operation_step}
 use Rattle.rw_docpattern.specs.Sets.{are_sets, fits_left, sets_of, with_sets}
 use Rattle.rw_docpattern.specs.Terms.{is_within_limits}
-use Rattle.rw_docpattern.specs.Variables.{kinds_of, variables_of}
+use Rattle.rw_docpattern.specs.Variables.{kinds_of, number_in, variables_of}
 use Rattle.rw_docpattern.proofs.Codes.{IsFrom, from_none, from_row, here, past, tells_checked, tells_checked_then, tells_none, tells_some, tells_some_then}
 use Rattle.rw_docpattern.proofs.Somewhere.{and_some, any_fails, any_given, any_missing, any_so, any_source, any_with, any_without, none_fails, none_missing, some_and}
 
@@ -47,21 +49,13 @@ never_both : (test : Bool) → test ≡ true → test ≡ false → ⊥
 never_both true passes fails = cc
 never_both false passes fails = cc
 
--- a number that is not small is great
-beyond : (n : ℕ) → nat_le n 256 ≡ false → 256 < n
-beyond n fails = omega (arith, fails)
-
--- a number that is small is not great
-not_beyond : (n : ℕ) → nat_le n 256 ≡ true → 256 < n → ⊥
-not_beyond n passes great = omega (arith, passes)
-
 -- limits that are passed
 limits_fail : (C : Signature) (form : PatternForm) → is_form_within C form ≡ false → IsPastLimits C form
 limits_fail C form fails =
     let within : WrittenEntry → Bool = λ entry. is_within_limits entry.term in
     elim (one_of_three (has_few_parts (bare_lists C form)) (nat_le (length form.entries) 256) (list_all within form.entries) fails) [
       inl many ↦ inl many
-      | inr rest ↦ elim rest [ inl long ↦ inr (inl (beyond (length form.entries) long)) | inr deep ↦ inr (inr (any_fails within form.entries deep)) ]
+      | inr rest ↦ elim rest [ inl long ↦ inr (inl (leb-false (length form.entries) 256 long)) | inr deep ↦ inr (inr (any_fails within form.entries deep)) ]
     ]
 
 -- three tests that passed together
@@ -82,7 +76,7 @@ limits_pass C form passes past =
     let parts = all_three (has_few_parts (bare_lists C form)) (nat_le (length form.entries) 256) (list_all within form.entries) passes in
     elim past [
       inl many ↦ never_both (has_few_parts (bare_lists C form)) parts.0 many
-      | inr rest ↦ elim rest [ inl long ↦ not_beyond (length form.entries) parts.1 long | inr deep ↦ none_fails within form.entries parts.2 deep ]
+      | inr rest ↦ elim rest [ inl long ↦ (let few : length form.entries ≤ 256 = leb-true (length form.entries) 256 parts.1 in omega arith) | inr deep ↦ none_fails within form.entries parts.2 deep ]
     ]
 
 -- a part that is not there
@@ -185,16 +179,34 @@ bare_tells schema piece value =
 -- ---- left patterns
 
 -- a term of which nothing is wanted is an operation
-operation_unwanted : (variables : List (List ℕ)) (term : WrittenTerm) → want_of variables term ≡ None → is_operation term ≡ true
-operation_unwanted variables (Const atom) none = cc
-operation_unwanted variables (Var name) none = cc
-operation_unwanted variables (Op name first second) none = refl
+abbrev IsUnwanted : List (List ℕ) → WrittenTerm → Type 0
+IsUnwanted variables term = want_of variables term ≡ None → is_operation term ≡ true
+
+-- so is one level
+level_unwanted : (variables : List (List ℕ)) (level : WrittenTerm-F WrittenTerm) → IsUnwanted variables (roll-WrittenTerm level)
+level_unwanted variables (WrittenTerm-F.Const atom) none =
+    let never : Some (wants.Const atom) ≡ None = sym (fold-roll-WrittenTerm (Option Want) (want_step variables) (WrittenTerm-F.Const atom)) ∙ none in cc
+level_unwanted variables (WrittenTerm-F.Var name) none =
+    let never : Some (wants.Var (number_in variables name)) ≡ None = sym (fold-roll-WrittenTerm (Option Want) (want_step variables) (WrittenTerm-F.Var name)) ∙ none in cc
+level_unwanted variables (WrittenTerm-F.Op name first second) none = fold-roll-WrittenTerm Bool operation_step (WrittenTerm-F.Op name first second)
+
+operation_unwanted : (variables : List (List ℕ)) (term : WrittenTerm) → IsUnwanted variables term
+operation_unwanted variables = ind-WrittenTerm (IsUnwanted variables) (λ x y is. level_unwanted variables x)
 
 -- nothing is wanted of an operation
-unwanted_operation : (variables : List (List ℕ)) (term : WrittenTerm) → is_operation term ≡ true → want_of variables term ≡ None
-unwanted_operation variables (Const atom) is = cc
-unwanted_operation variables (Var name) is = cc
-unwanted_operation variables (Op name first second) is = refl
+abbrev IsWantless : List (List ℕ) → WrittenTerm → Type 0
+IsWantless variables term = is_operation term ≡ true → want_of variables term ≡ None
+
+-- so it is at one level
+level_wantless : (variables : List (List ℕ)) (level : WrittenTerm-F WrittenTerm) → IsWantless variables (roll-WrittenTerm level)
+level_wantless variables (WrittenTerm-F.Const atom) is =
+    let never : false ≡ true = sym (fold-roll-WrittenTerm Bool operation_step (WrittenTerm-F.Const atom)) ∙ is in cc
+level_wantless variables (WrittenTerm-F.Var name) is =
+    let never : false ≡ true = sym (fold-roll-WrittenTerm Bool operation_step (WrittenTerm-F.Var name)) ∙ is in cc
+level_wantless variables (WrittenTerm-F.Op name first second) is = fold-roll-WrittenTerm (Option Want) (want_step variables) (WrittenTerm-F.Op name first second)
+
+unwanted_operation : (variables : List (List ℕ)) (term : WrittenTerm) → IsWantless variables term
+unwanted_operation variables = ind-WrittenTerm (IsWantless variables) (λ x y is. level_wantless variables x)
 
 -- nothing comes of nothing alone
 none_of_none : {A B : Type 0} (f : A → B) (found : Option A) → option_map f found ≡ None → found ≡ None
@@ -262,7 +274,7 @@ wants_tell schema piece form entries named =
     (λ cells given. tells_checked piece 14 14 (HasOtherVariable schema form) no_code (is_none (variable_fault C kinds (lists_with C form cells))) _ (omega arith) (from_none 14)
     (λ fails. rw (named, given) (some_there (variable_fault C kinds (lists_with C form cells)) fails))
     (λ passes other. none_there (variable_fault C kinds (lists_with C form cells)) passes (rw (named, given) at other))
-    (λ passes. tells_none piece _))
+    (λ passes code has. has))
 
 -- left patterns, and those of watches
 pub pattern_tells : FirstPatternFault
@@ -305,4 +317,4 @@ right_tells schema ops piece left value =
     tells_checked piece 14 14 (IsSomeAnd found (HasOtherSet schema ops left)) no_code (are_sets C ops left sets) _ (omega arith) (from_none 14)
     (λ fails. rw (is, named) (sets_fail C ops left sets fails))
     (λ passes other. sets_pass C ops left sets passes (rw (is, named) at other))
-    (λ passes. tells_none piece _))
+    (λ passes code has. has))

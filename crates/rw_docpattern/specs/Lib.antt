@@ -10,6 +10,7 @@ pub mod Operations
 pub mod Parts
 pub mod PatternCodes
 pub mod Patterns
+pub mod PieceCodes
 pub mod Reads
 pub mod Rights
 pub mod Sets

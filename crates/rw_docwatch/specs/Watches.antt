@@ -27,10 +27,13 @@ read_watch_pieces schema taken place members =
 abbrev pub names_of_watches : List WatchLists → List (List ℕ)
 names_of_watches watches = map (λ (watch : WatchLists). watch.name) watches
 
+-- the watch at the place, where these names are taken
+abbrev pub read_watch_where : Presentation → List (List ℕ) → ℕ → Data → Result WatchLists DocFault
+read_watch_where schema taken place value = and_then (some_or (fault_in (watch_piece place 0) 2) (watch_members value)) (read_watch_pieces schema taken place)
+
 -- the watch behind these; rules and watches share one list of names
 abbrev pub read_watch : Presentation → List (List ℕ) → List WatchLists → Data → Result WatchLists DocFault
-read_watch schema rules before value = and_then (some_or (fault_in (watch_piece (length before) 0) 2) (watch_members value))
-    (read_watch_pieces schema (rules ++ names_of_watches before) (length before))
+read_watch schema rules before value = read_watch_where schema (rules ++ names_of_watches before) (length before) value
 
 -- the watches that are written, at most 64; these are the names of the rules
 abbrev pub read_watches : Presentation → List (List ℕ) → Option Data → Result (List WatchLists) DocFault

@@ -5,12 +5,9 @@ ghost use Rattle.std.specs.List.{list_any};
 ghost use Rattle.std.specs.Str.{bytes_eq};
 ghost use Rattle.serde_json.specs.View.{view};
 ghost use Rattle.rw_schema.specs.Presentation.{signature_of};
-ghost use Rattle.rw_rule.specs.RuleFaults.{IsGoalOver};
-ghost use Rattle.rw_rule.specs.RuleParts.{goal_of_parts, lists_of_watch};
-ghost use Rattle.rw_doc.specs.Chain.{and_then, each_after, some_or};
+ghost use Rattle.rw_rule.specs.RuleParts.{lists_of_watch};
+ghost use Rattle.rw_doc.specs.Chain.{each_after};
 ghost use Rattle.rw_doc.specs.Gives.{Gives};
-ghost use Rattle.rw_doc.specs.Pieces.{fault_in};
-ghost use Rattle.rw_docwatch.specs.Heads.{watch_members as members_in};
 ghost use Rattle.rw_docwatch.specs.Known.{IsWatchRead};
 ghost use Rattle.rw_docwatch.specs.Members.{members_of_watch};
 ghost use Rattle.rw_docwatch.specs.Watches as spec;
@@ -72,8 +69,7 @@ fn read_watch(
     place: u32,
     value: &Value,
 ) -> Result<Watch, ReadDocEnd>
-    ensures gives { Gives lists_of_watch result (and_then (some_or (fault_in (spec.watch_piece place 0) 2) (members_in (view value.now)))
-        (spec.read_watch_pieces schema.now taken.now place)) }
+    ensures gives { Gives lists_of_watch result (spec.read_watch_where schema.now taken.now place (view value.now)) }
     ensures known { IfOk result (λ watch. IsWatchRead (signature_of schema.now) (lists_of_watch watch)) }
     ensures new { IfOk result (λ watch. list_any (bytes_eq watch.name) taken.now ≡ false) }
 {
