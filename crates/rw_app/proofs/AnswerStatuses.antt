@@ -12,7 +12,7 @@ use Rattle.rw_limits.specs.declared.limit.PullEnd.{PullEnd}
 use Rattle.rw_limits.specs.declared.limit.PullEnd.TheVariants as pull_ends
 use Rattle.rw_doc.specs.declared.fault.DocFault.{DocFault}
 use Rattle.rw_docspan.specs.Spans.{SpanLists, CospanLists}
-use Rattle.rw_docrule.specs.Models.{DocumentLists}
+use Rattle.rw_document.specs.Models.{DocumentLists}
 use Rattle.rw_print.specs.declared.last.End.{End}
 use Rattle.rw_print.specs.declared.last.End.TheVariants.{Done, Failed, Spent}
 use Rattle.rw_app.specs.AnswerText.{AnswerText}

@@ -7,8 +7,8 @@ use Rattle.std.proofs.lemmas.List.Folds.{find-append}
 use Rattle.rw_rule.specs.RuleLists.{RuleLists, WatchLists}
 use Rattle.rw_rule.specs.RuleParts.{lists_of_watch}
 use Rattle.rw_rule.specs.declared.watch.Watch.{Watch}
-use Rattle.rw_docrule.specs.declared.document.Document.{Document}
-use Rattle.rw_docrule.specs.Models.{document_lists}
+use Rattle.rw_document.specs.declared.document.Document.{Document}
+use Rattle.rw_document.specs.Models.{document_lists}
 use Rattle.rw_app.specs.Kept.{goal_of_rule, named_goals}
 
 -- what holds of the first of some items and of the one found later holds of the one found

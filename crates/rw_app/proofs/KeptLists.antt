@@ -8,8 +8,8 @@ use Rattle.rw_rule.specs.RuleLists.{RuleLists, WatchLists}
 use Rattle.rw_rule.specs.RuleParts.{goal_of_parts, lists_of_watch}
 use Rattle.rw_rule.specs.declared.watch.Watch.{Watch}
 use Rattle.rw_lists.specs.Fresh.{fresh_list}
-use Rattle.rw_docrule.specs.declared.document.Document.{Document}
-use Rattle.rw_docrule.specs.Models.{document_lists}
+use Rattle.rw_document.specs.declared.document.Document.{Document}
+use Rattle.rw_document.specs.Models.{document_lists}
 use Rattle.rw_app.specs.Kept.{goal_of_rule, list_in, lists_in}
 
 -- mapping twice is mapping once

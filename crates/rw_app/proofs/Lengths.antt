@@ -2,7 +2,7 @@
 use Rattle.std.proofs.Common.{◌≡◌, ℕ, ◌+◌, List, map, length, sym, ap, ◌∙◌, length-append}
 use Rattle.std.proofs.lemmas.List.{length-map}
 use Rattle.rw_schema.specs.RowLists.{RowLists}
-use Rattle.rw_docrule.specs.Models.{DocumentLists}
+use Rattle.rw_document.specs.Models.{DocumentLists}
 use Rattle.rw_app.specs.Kept.{goal_of_rule, named_goals, list_in, lists_in}
 
 -- there is one list for each rule and each watch

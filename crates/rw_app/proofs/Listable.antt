@@ -7,7 +7,7 @@ use Rattle.rw_rule.specs.Images.{is_injective}
 use Rattle.rw_rule.specs.PlainRules.{has_no_conditions, is_dpo, is_monic_where_many, is_plain}
 use Rattle.rw_rule.specs.RuleLists.{ConditionLists, RuleLists, WatchLists}
 use Rattle.rw_lists.specs.Fresh.{IsListable}
-use Rattle.rw_docrule.specs.Models.{DocumentLists, IsSound}
+use Rattle.rw_document.specs.Models.{DocumentLists, IsSound}
 use Rattle.rw_app.specs.Kept.{HasGoals}
 
 -- a list that passes the test has no conditions

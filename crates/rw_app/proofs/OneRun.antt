@@ -10,7 +10,7 @@ use Rattle.rw_rule.specs.declared.refusal.Refusal.{Refusal}
 use Rattle.rw_plain.specs.Obstructions.{obstruction}
 use Rattle.rw_plain.specs.PlainStep.{rows_after}
 use Rattle.rw_lists.specs.Fresh.{fresh_list}
-use Rattle.rw_docrule.specs.Models.{DocumentLists}
+use Rattle.rw_document.specs.Models.{DocumentLists}
 use Rattle.rw_print.specs.declared.last.End.{End}
 use Rattle.rw_print.specs.declared.last.End.TheVariants.{Done, Failed, Spent}
 use Rattle.rw_app.proofs.Tried.{Tried, tried, picked}

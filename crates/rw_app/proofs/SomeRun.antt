@@ -8,7 +8,7 @@ use Rattle.rw_terms.specs.declared.code.OpCode.{OpCode}
 use Rattle.rw_rule.specs.RuleLists.{RuleLists}
 use Rattle.rw_plain.specs.Obstructions.{obstruction}
 use Rattle.rw_lists.specs.Fresh.{fresh_list}
-use Rattle.rw_docrule.specs.Models.{DocumentLists}
+use Rattle.rw_document.specs.Models.{DocumentLists}
 use Rattle.rw_print.specs.declared.last.End.{End}
 use Rattle.rw_print.specs.declared.last.End.TheVariants.{Done, Spent}
 use Rattle.rw_app.specs.Runs.{Firing, Changes, Fires, Box, rule, exit, default_schedule, place_after, Stand, stand_after, IsFired, Run, Leads, IsRun}

@@ -5,8 +5,8 @@ use Rattle.rw_schema.specs.declared.section.Section.TheVariants.{Whole}
 use Rattle.rw_terms.specs.OpTables.{OpEntry, codes_of}
 use Rattle.rw_rule.specs.RuleLists.{WatchLists}
 use Rattle.rw_doc.specs.declared.fault.DocFault.{DocFault}
-use Rattle.rw_docrule.specs.Documents.{read_document}
-use Rattle.rw_docrule.specs.Models.{DocumentLists}
+use Rattle.rw_document.specs.Documents.{read_document}
+use Rattle.rw_document.specs.Models.{DocumentLists}
 use Rattle.rw_print.specs.declared.last.End.{End}
 use Rattle.rw_print.specs.declared.last.End.TheVariants as ends
 use Rattle.rw_print.specs.Lines.{line, matches_data, check_data}

@@ -7,7 +7,7 @@ use Rattle.rw_spec.specs.Instance.{instance_of}
 use Rattle.rw_spec.specs.Tabled.{IsOver}
 use Rattle.rw_rule.specs.RuleLists.{RuleLists, WatchLists}
 use Rattle.rw_lists.specs.Fresh.{IsListable, fresh_list}
-use Rattle.rw_docrule.specs.Models.{DocumentLists}
+use Rattle.rw_document.specs.Models.{DocumentLists}
 
 -- the instance is over the schema, all goals can be listed, and there are few of them
 pub record HasGoals (document : DocumentLists) : Type 0 where

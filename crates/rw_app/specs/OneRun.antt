@@ -1,6 +1,6 @@
 -- A document has exactly one run.
 use Rattle.std.specs.Prelude.{◌≡◌, ℕ, List}
-use Rattle.rw_docrule.specs.Models.{DocumentLists}
+use Rattle.rw_document.specs.Models.{DocumentLists}
 use Rattle.rw_app.specs.Runs.{Run, IsRun}
 use Rattle.rw_terms.specs.declared.code.OpCode.{OpCode}
 

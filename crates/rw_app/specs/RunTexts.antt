@@ -3,7 +3,7 @@ use Rattle.std.specs.Prelude.{ℕ, List, ◌++◌, map, length}
 use Rattle.std.specs.List.{flat_map}
 use Rattle.rw_schema.specs.RowLists.{RowLists}
 use Rattle.rw_lists.specs.News.{differences}
-use Rattle.rw_docrule.specs.Models.{DocumentLists}
+use Rattle.rw_document.specs.Models.{DocumentLists}
 use Rattle.rw_print.specs.Lines.{line, step_data, end_data}
 use Rattle.rw_app.specs.Kept.{lists_in}
 use Rattle.rw_app.specs.Runs.{Firing, Run}

@@ -7,7 +7,7 @@ use Rattle.rw_schema.specs.RowLists.{RowLists}
 use Rattle.rw_spec.specs.Tabled.{IsOver}
 use Rattle.rw_terms.specs.declared.code.OpCode.{OpCode}
 use Rattle.rw_rule.specs.RuleLists.{RuleLists}
-use Rattle.rw_docrule.specs.Models.{DocumentLists}
+use Rattle.rw_document.specs.Models.{DocumentLists}
 use Rattle.rw_print.specs.declared.last.End.{End}
 use Rattle.rw_app.specs.declared.firing.Fired.{Fired}
 use Rattle.rw_app.specs.declared.runner.Ran.{Ran}

@@ -7,10 +7,10 @@ ghost use Rattle.rw_spec.specs.Tabled.{IsOver, instance_of_table};
 ghost use Rattle.rw_rule.specs.RuleLists.{RuleLists};
 ghost use Rattle.rw_rule.specs.RuleParts.{goal_of_parts};
 ghost use Rattle.rw_lists.specs.Fresh.{IsListable, fresh_list as fresh_list_of};
-ghost use Rattle.rw_docrule.specs.Models.{document_lists};
+ghost use Rattle.rw_document.specs.Models.{document_lists};
 ghost use Rattle.rw_app.specs.Kept.{HasGoals, lists_in};
 
-use rw_docrule::Document;
+use rw_document::Document;
 use rw_lists::fresh_list;
 use rw_pattern::Tuple;
 use rw_rule::{Rule, Watch};

@@ -12,7 +12,7 @@ ghost use Rattle.rw_app.specs.Limits.{IsPushoutAnswer, IsPullbackAnswer};
 use crate::Status;
 use crate::answer::{Answer, refusal};
 use rw_doc::DocFault;
-use rw_docrule::Document;
+use rw_document::Document;
 use rw_docspan::{Cospan, Span};
 use rw_limits::{GlueFault, PullEnd, pullback, pushout};
 use rw_print::{clash_line, large_line, limit_line};

@@ -6,10 +6,10 @@ ghost use Rattle.std.specs.Str.{bytes_eq};
 ghost use Rattle.rw_schema.specs.Presentation.{signature_of};
 ghost use Rattle.rw_rule.specs.RuleParts.{goal_of_parts};
 ghost use Rattle.rw_lists.specs.Fresh.{IsListable};
-ghost use Rattle.rw_docrule.specs.Models.{document_lists};
+ghost use Rattle.rw_document.specs.Models.{document_lists};
 ghost use Rattle.rw_app.specs.Kept.{HasGoals, named_goals};
 
-use rw_docrule::Document;
+use rw_document::Document;
 use rw_rule::{Goal, Rule, Watch};
 use rw_schema::Text;
 

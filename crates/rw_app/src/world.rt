@@ -1,12 +1,12 @@
 //! The state of a run.
 
 ghost use Rattle.std.specs.Prelude.{◌≡◌, IfOk};
-ghost use Rattle.rw_docrule.specs.Models.{document_lists};
+ghost use Rattle.rw_document.specs.Models.{document_lists};
 ghost use Rattle.rw_app.specs.Kept.{HasGoals};
 ghost use Rattle.rw_app.specs.Runners.{IsWorld};
 
 use crate::kept::kept_lists;
-use rw_docrule::Document;
+use rw_document::Document;
 use rw_pattern::Tuple;
 use rw_schema::OutOfMemory;
 use rw_table::Table;

@@ -1,7 +1,14 @@
 pub mod BareFaults
+pub mod Codes
 pub mod DraftSteps
 pub mod DraftTurns
 pub mod FirstPlaces
+pub mod MapCodes
+pub mod Marks
+pub mod NamedCodes
+pub mod PatternCodes
+pub mod PieceCodes
+pub mod Somewhere
 pub mod SoundCells
 pub mod SoundDrafts
 pub mod TermLevels

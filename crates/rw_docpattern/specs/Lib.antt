@@ -1,12 +1,16 @@
 pub mod Bare
+pub mod Codes
 pub mod Drafts
 pub mod Forms
+pub mod MapCodes
 pub mod Maps
 pub mod Numbering
 pub mod Objects
 pub mod Operations
 pub mod Parts
+pub mod PatternCodes
 pub mod Patterns
+pub mod PieceCodes
 pub mod Reads
 pub mod Rights
 pub mod Sets

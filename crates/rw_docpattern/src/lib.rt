@@ -8,6 +8,7 @@ mod draft;
 mod entry;
 mod fits;
 mod forms;
+mod laws;
 mod maps;
 mod named;
 mod numbered;
@@ -21,8 +22,9 @@ mod variables;
 mod wants;
 
 pub use entry::{Entry, WrittenEntry};
+pub use laws::{maps_tell_first, patterns_tell_first};
 pub use maps::read_map;
-pub use objects::{marks_named, texts_or_none};
+pub use objects::{read_monic, texts_or_none};
 pub use patterns::{PatternRead, read_bare_pattern, read_pattern};
 pub use sets::{RightRead, read_right};
 pub use term::WrittenTerm;

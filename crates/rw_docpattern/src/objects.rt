@@ -1,13 +1,14 @@
 //! The objects that a rule or a watch lists as monic.
 
-ghost use Rattle.std.specs.Prelude.{◌≡◌, ◌==◌, IfOk, map, option_map};
+ghost use Rattle.std.specs.Prelude.{◌≡◌, ◌==◌, IfOk, length, map, option_map};
 ghost use Rattle.std.specs.List.{list_any};
 ghost use Rattle.serde_json.specs.Find.{as_str};
 ghost use Rattle.serde_json.specs.View.{view};
 ghost use Rattle.rw_doc.specs.Chain.{all_some};
+ghost use Rattle.rw_doc.specs.Gives.{Gives};
 ghost use Rattle.rw_docpattern.specs.Objects as spec;
 
-use rw_doc::items_of;
+use rw_doc::{Piece, ReadDocEnd, items_of};
 use rw_schema::{ObjectId, OutOfMemory, Schema, Text};
 use serde_json::Value;
 use std::alloc::Global;
@@ -83,7 +84,7 @@ fn marks_of(alloc: Global, objects: usize, listed: &[ObjectId]) -> Result<Vec<bo
 }
 
 /// Of each object whether its name is listed, or nothing where a name is none of an object's.
-pub fn marks_named(
+fn marks_named(
     alloc: Global,
     schema: &Schema,
     names: &[Text],
@@ -95,4 +96,20 @@ pub fn marks_named(
     };
     let marks = marks_of(alloc, schema.objects(), listed.as_slice())?;
     Ok(Some(marks))
+}
+
+/// Of each object whether its name is listed, or the fault where a name is none of an object's.
+pub fn read_monic(
+    alloc: Global,
+    schema: &Schema,
+    piece: Piece,
+    names: &[Text],
+) -> Result<Vec<bool>, ReadDocEnd>
+    ensures gives { Gives (λ marks. marks.items) result (spec.read_monic schema.now.objects piece names.now) }
+    ensures long { IfOk result (λ marks. length marks.items ≡ length schema.now.objects) }
+{
+    match marks_named(alloc, schema, names)? {
+        Some(marks) => Ok(marks),
+        None => Err(piece.refused(6)),
+    }
 }

@@ -10,7 +10,7 @@ use Rattle.rw_rule.specs.RuleFaults.{BuildsRule, are_maps, built, is_apart, is_s
 use Rattle.rw_rule.specs.RuleLists.{RuleLists}
 use Rattle.rw_rule.specs.Sets.{bad_set, set_again, unbound_set, value_missing}
 use Rattle.rw_doc.specs.Chain.{checked}
-use Rattle.rw_docrule.specs.Documents.{is_built, not_built}
+use Rattle.rw_docrule.specs.Built.{is_built, not_built}
 use Rattle.rw_docrule.specs.Rules.{RuleRead}
 
 -- the lists of what is read

@@ -1,8 +1,5 @@
 mod BuiltRules
-mod Examples
-mod FirstReadings
-mod Marks
+pub mod FirstReadings
 mod ReadMaps
 mod RightSets
 mod SoundRules
-mod SoundTable

@@ -1,4 +1,5 @@
 -- The lists of a rule that is read have no fault but that arrows may lead round a cycle.
+use Rattle.std.proofs.lemmas.List.Elements.{All-nil}
 use Rattle.std.proofs.Common.{◌≡◌, ℕ, Bool, true, false, not, ◌&&◌, ◌||◌, is_none, None, Ok, List, length, refl, subst}
 use Rattle.rw_schema.specs.Presentation.{Presentation, signature_of}
 use Rattle.rw_schema.specs.Signature.{Signature}
@@ -7,7 +8,7 @@ use Rattle.rw_rule.specs.declared.fault.RuleFault.TheVariants.{Unbound, BadTerm}
 use Rattle.rw_rule.specs.declared.kind.RuleKind.{RuleKind}
 use Rattle.rw_rule.specs.declared.set.SetCell.{SetCell}
 use Rattle.rw_rule.specs.Images.{is_injective}
-use Rattle.rw_rule.specs.RuleFaults.{is_map, is_sqpo, rule_fault}
+use Rattle.rw_rule.specs.RuleFaults.{AreOver, IsConditionOver, is_map, is_sqpo, rule_fault}
 use Rattle.rw_rule.specs.RuleLists.{RuleLists}
 use Rattle.rw_rule.specs.Sets.{fits_set, is_closed, value_missing}
 use Rattle.rw_doc.proofs.Chains.{chain}
@@ -17,7 +18,8 @@ use Rattle.rw_docpattern.specs.Patterns.{read_bare_pattern, read_pattern}
 use Rattle.rw_doc.specs.Pieces.{fault_in}
 use Rattle.rw_docpattern.specs.Sets.{read_right}
 use Rattle.rw_docrule.specs.Heads.{RuleHead, RuleMembers}
-use Rattle.rw_docrule.specs.Rules.{Sides, read_l, read_r, read_sides, rule_piece, rule_with}
+use Rattle.rw_docrule.specs.Known.{AreSidesOver}
+use Rattle.rw_docrule.specs.Rules.{Body, Maps, Sides, read_body, read_l, read_maps, read_r, read_sides, rule_piece, rule_with}
 use Rattle.rw_doc.proofs.Checked.{none_is, passed}
 use Rattle.rw_docrule.proofs.ReadMaps.{map_read}
 use Rattle.rw_docrule.proofs.RightSets.{AreSets, sets_read}
@@ -54,11 +56,12 @@ no_cycle true = refl
 no_cycle false = refl
 
 -- lists that fit have no fault
-lists_sound : (C : Signature) (ops : List OpEntry) (head : RuleHead) (sides : Sides) (l r : List (List ℕ)) → AreSets C ops sides.left sides.right
-    → IsMapToLeft C head.kind sides l → is_map C sides.keep sides.right.pattern r ≡ true → value_missing C (rule_with head sides l r) ≡ None
-    → rule_fault C (length ops) false (rule_with head sides l r) ≡ None
-lists_sound C ops head sides l r sets left right given =
-    let rule : RuleLists = rule_with head sides l r in
+lists_sound : (C : Signature) (ops : List OpEntry) (head : RuleHead) (body : Body) → AreSets C ops body.sides.left body.sides.right
+    → IsMapToLeft C head.kind body.sides body.maps.l → is_map C body.sides.keep body.sides.right.pattern body.maps.r ≡ true → value_missing C (rule_with head body) ≡ None
+    → rule_fault C (length ops) false (rule_with head body) ≡ None
+lists_sound C ops head body sets left right given =
+    let rule : RuleLists = rule_with head body in
+    let sides : Sides = body.sides in
     rw (
       left.map,
       right,
@@ -69,14 +72,58 @@ lists_sound C ops head sides l r sets left right given =
       sets.once,
     ) given
 
--- lists that are read have no fault
-pub rule_sound : (schema : Presentation) (ops : List OpEntry) (place : ℕ) (members : RuleMembers) (head : RuleHead) (sides : Sides) (l : List (List ℕ)) (rule : RuleLists)
-    → read_sides schema ops place members ≡ Ok sides → read_l schema place head.kind sides members ≡ Ok l → read_r schema place head sides l members ≡ Ok rule
-    → rule_fault (signature_of schema) (length ops) false rule ≡ None
-rule_sound schema ops place members head sides l rule sides_are left =
+-- the maps of a rule fit its patterns
+record AreMaps (C : Signature) (kind : RuleKind) (sides : Sides) (maps : Maps) : Type 0 where
+  left : IsMapToLeft C kind sides maps.l
+  right : is_map C sides.keep sides.right.pattern maps.r ≡ true
+
+-- so do maps that are read
+maps_fit : (schema : Presentation) (place : ℕ) (kind : RuleKind) (sides : Sides) (members : RuleMembers) (maps : Maps)
+    → read_maps schema place kind sides members ≡ Ok maps → AreMaps (signature_of schema) kind sides maps
+maps_fit schema place kind sides members =
     let C : Signature = signature_of schema in
-    let P : RuleLists → Type 0 = λ rule. rule_fault C (length ops) false rule ≡ None in
-    chain P (read_map C (rule_piece place 5) sides.keep sides.right.pattern members.r) _
-    (λ r read. passed P (fault_in (rule_piece place 5) 14) (is_none (value_missing C (rule_with head sides l r))) (rule_with head sides l r)
-    (λ given. lists_sound C ops head sides l r (sides_fit schema ops place members sides sides_are) (l_fits schema place head.kind sides members l left)
-    (map_read C (rule_piece place 5) sides.keep sides.right.pattern members.r r read).map (none_is (value_missing C (rule_with head sides l r)) given))) rule
+    let P : Maps → Type 0 = AreMaps C kind sides in
+    chain P (read_l schema place kind sides members) _
+    (λ l is_l. chain P (read_r schema place sides members) _
+    (λ r is_r maps is. let same : record { l = l; r = r } ≡ maps = cc in
+    subst P same (record {
+      left = l_fits schema place kind sides members l is_l;
+      right = (map_read C (rule_piece place 5) sides.keep sides.right.pattern members.r r is_r).map;
+    })))
+
+-- the sets and the maps of a rule fit its patterns
+record IsFit (C : Signature) (ops : List OpEntry) (kind : RuleKind) (body : Body) : Type 0 where
+  sets : AreSets C ops body.sides.left body.sides.right
+  maps : AreMaps C kind body.sides body.maps
+
+-- so do those that are read
+body_fits : (schema : Presentation) (ops : List OpEntry) (place : ℕ) (kind : RuleKind) (members : RuleMembers) (body : Body)
+    → read_body schema ops place kind members ≡ Ok body → IsFit (signature_of schema) ops kind body
+body_fits schema ops place kind members =
+    let P : Body → Type 0 = IsFit (signature_of schema) ops kind in
+    chain P (read_sides schema ops place members) _
+    (λ sides are_sides. chain P (read_maps schema place kind sides members) _
+    (λ maps are_maps body is. let same : record { sides = sides; maps = maps } ≡ body = cc in
+    subst P same (record {
+      sets = sides_fit schema ops place members sides are_sides;
+      maps = maps_fit schema place kind sides members maps are_maps;
+    })))
+
+-- lists that are read have no fault
+pub rule_sound : (schema : Presentation) (ops : List OpEntry) (place : ℕ) (members : RuleMembers) (head : RuleHead) (body : Body)
+    → read_body schema ops place head.kind members ≡ Ok body → value_missing (signature_of schema) (rule_with head body) ≡ None
+    → rule_fault (signature_of schema) (length ops) false (rule_with head body) ≡ None
+rule_sound schema ops place members head body is given =
+    let fit = body_fits schema ops place head.kind members body is in
+    lists_sound (signature_of schema) ops head body fit.sets fit.maps.left fit.maps.right given
+
+-- they are over the schema
+pub rule_over : (C : Signature) (head : RuleHead) (body : Body) → AreSidesOver C body.sides → length head.monic ≡ C.objects → AreOver C (rule_with head body)
+rule_over C head body sides monic = record {
+  goal = record { left = sides.left; monic = monic; conditions = All-nil (IsConditionOver C body.sides.left.kinds) };
+  keep = sides.keep;
+  right = sides.right;
+  keep_free = sides.keep_free;
+  right_free = sides.right_free;
+  attributes = sides.attributes;
+}

@@ -1,4 +1,4 @@
--- The first pieces of rules and watches: their own keys, names, kinds and monic objects.
+-- The first pieces of rules: their own keys, names, kinds and monic objects.
 use Rattle.std.specs.Prelude.{ℕ, Bool, not, ◌&&◌, nat_le, length, codes, List, [], ◌∷◌, Option, Some, None, option_and_then, option_map, Result, Ok, if◌then◌else◌}
 use Rattle.std.specs.List.{list_any}
 use Rattle.std.specs.Str.{bytes_eq}
@@ -11,10 +11,8 @@ use Rattle.rw_doc.specs.declared.fault.DocFault.{DocFault}
 use Rattle.rw_doc.specs.Chain.{and_then, some_or, checked}
 use Rattle.rw_doc.specs.Json.{as_list, has_only}
 use Rattle.rw_doc.specs.declared.piece.Piece.{Piece}
-use Rattle.rw_docpattern.specs.Objects.{marks_named, texts_or_none}
+use Rattle.rw_docpattern.specs.Objects.{read_monic, texts_or_none}
 use Rattle.rw_doc.specs.Pieces.{fault_in}
-
--- ---- rules
 
 abbrev pub rule_keys : List (List ℕ)
 rule_keys = codes "conditions" ∷ codes "keep" ∷ codes "kind" ∷ codes "l" ∷ codes "left" ∷ codes "monic" ∷ codes "name" ∷ codes "r" ∷ codes "right" ∷ []
@@ -87,43 +85,5 @@ abbrev pub read_rule_head : List (List ℕ) → List (List ℕ) → Piece → Ru
 read_rule_head objects taken piece members = and_then (some_or (fault_in piece 2) (head_form members)) (λ form.
     checked (fault_in piece 4) (is_name form.name && nat_le form.conditions 16)
     (checked (fault_in piece 5) (not (list_any (bytes_eq form.name) taken))
-    (and_then (some_or (fault_in piece 6) (marks_named objects form.monic)) (λ monic.
+    (and_then (read_monic objects piece form.monic) (λ monic.
     Ok (record { name = form.name; kind = form.kind; monic = monic })))))
-
--- ---- watches
-
-abbrev pub watch_keys : List (List ℕ)
-watch_keys = codes "monic" ∷ codes "name" ∷ codes "pattern" ∷ []
-
--- the members of a watch
-pub record WatchMembers : Type 0 where
-  pub name : Data
-  pub pattern : Data
-  pub monic : Option Data
-
-abbrev pub watch_members : Data → Option WatchMembers
-watch_members value =
-    if has_only watch_keys value
-    then option_and_then (λ name. option_map (λ pattern. record { name = name; pattern = pattern; monic = get (codes "monic") value })
-    (get (codes "pattern") value)) (get (codes "name") value)
-    else None
-
--- the name, and the names of monic objects
-pub record WatchForm : Type 0 where
-  pub name : List ℕ
-  pub monic : List (List ℕ)
-
-abbrev pub watch_form : WatchMembers → Option WatchForm
-watch_form members = option_and_then (λ name. option_map (λ monic. record { name = name; monic = monic }) (texts_or_none members.monic)) (as_str members.name)
-
--- the name, and of each object whether it is monic
-pub record WatchHead : Type 0 where
-  pub name : List ℕ
-  pub monic : List Bool
-
--- a watch's own piece, where these names are taken: codes 2, 4, 5 and 6
-abbrev pub read_watch_head : List (List ℕ) → List (List ℕ) → Piece → WatchMembers → Result WatchHead DocFault
-read_watch_head objects taken piece members = and_then (some_or (fault_in piece 2) (watch_form members)) (λ form.
-    checked (fault_in piece 4) (is_name form.name)
-    (checked (fault_in piece 5) (not (list_any (bytes_eq form.name) taken))
-    (and_then (some_or (fault_in piece 6) (marks_named objects form.monic)) (λ monic. Ok (record { name = form.name; monic = monic })))))

@@ -1,11 +1,11 @@
--- What is known of rules and watches that are read.
+-- What is known of rules that are read.
 use Rattle.std.specs.Prelude.{◌≡◌, ◌<◌, ◌≤◌, ℕ, false, length, [], None}
 use Rattle.std.specs.List.{All}
 use Rattle.rw_schema.specs.Signature.{Signature}
 use Rattle.rw_pattern.specs.PatternFaults.{IsPatternOver}
 use Rattle.rw_rule.specs.declared.set.SetCell.{SetCell}
-use Rattle.rw_rule.specs.RuleFaults.{AreOver, IsGoalOver, rule_fault}
-use Rattle.rw_rule.specs.RuleLists.{RuleLists, WatchLists}
+use Rattle.rw_rule.specs.RuleFaults.{AreOver, rule_fault}
+use Rattle.rw_rule.specs.RuleLists.{RuleLists}
 use Rattle.rw_docrule.specs.Rules.{Sides}
 
 -- the patterns of a rule are over the signature, the kept and the right one have no entries, and there are few sets
@@ -23,8 +23,3 @@ pub record IsRuleUnlessCyclic (C : Signature) (ops : ℕ) (rule : RuleLists) : T
   pub parts : AreOver C rule
   pub few : length rule.sets ≤ 256
   pub sound : rule_fault C ops false rule ≡ None
-
--- the goal of a watch is over the signature and has no conditions
-pub record IsWatchRead (C : Signature) (watch : WatchLists) : Type 0 where
-  pub over : IsGoalOver C watch.goal
-  pub free : watch.goal.conditions ≡ []

@@ -48,41 +48,63 @@ read_l schema place kind sides members =
     and_then (read_map (signature_of schema) (rule_piece place 4) sides.keep sides.left.pattern members.l) (λ images.
     checked (fault_in (rule_piece place 4) 12) (is_sqpo kind || is_injective sides.keep images) (Ok images))
 
+-- the map to the right: codes 2, 8 and 11
+abbrev pub read_r : Presentation → ℕ → Sides → RuleMembers → Result (List (List ℕ)) DocFault
+read_r schema place sides members = read_map (signature_of schema) (rule_piece place 5) sides.keep sides.right.pattern members.r
+
+-- the two maps of a rule
+pub record Maps : Type 0 where
+  pub l : List (List ℕ)
+  pub r : List (List ℕ)
+
+abbrev pub read_maps : Presentation → ℕ → RuleKind → Sides → RuleMembers → Result Maps DocFault
+read_maps schema place kind sides members = and_then (read_l schema place kind sides members) (λ l.
+    and_then (read_r schema place sides members) (λ r. Ok (record { l = l; r = r })))
+
+-- the patterns and the maps of a rule
+pub record Body : Type 0 where
+  pub sides : Sides
+  pub maps : Maps
+
+abbrev pub read_body : Presentation → List OpEntry → ℕ → RuleKind → RuleMembers → Result Body DocFault
+read_body schema ops place kind members = and_then (read_sides schema ops place members) (λ sides.
+    and_then (read_maps schema place kind sides members) (λ maps. Ok (record { sides = sides; maps = maps })))
+
 -- the lists of a rule
-abbrev pub rule_with : RuleHead → Sides → List (List ℕ) → List (List ℕ) → RuleLists
-rule_with head sides l r = record {
+abbrev pub rule_with : RuleHead → Body → RuleLists
+rule_with head body = record {
   name = head.name;
   kind = head.kind;
-  goal = record { left = sides.left.pattern; monic = head.monic; conditions = []; kinds = sides.left.kinds };
-  keep = sides.keep;
-  right = sides.right.pattern;
-  sets = sides.right.sets;
-  l = l;
-  r = r;
+  goal = record { left = body.sides.left.pattern; monic = head.monic; conditions = []; kinds = body.sides.left.kinds };
+  keep = body.sides.keep;
+  right = body.sides.right.pattern;
+  sets = body.sides.right.sets;
+  l = body.maps.l;
+  r = body.maps.r;
 }
 
--- the map to the right; each attribute of a new part is set: code 14 besides those of a map
-abbrev pub read_r : Presentation → ℕ → RuleHead → Sides → List (List ℕ) → RuleMembers → Result RuleLists DocFault
-read_r schema place head sides l members =
-    and_then (read_map (signature_of schema) (rule_piece place 5) sides.keep sides.right.pattern members.r) (λ r.
-    checked (fault_in (rule_piece place 5) 14) (is_none (value_missing (signature_of schema) (rule_with head sides l r))) (Ok (rule_with head sides l r)))
+-- the rule, where each attribute of each new part is set: code 14 of the map to the right
+abbrev pub with_values : Presentation → ℕ → RuleMembers → RuleLists → Result RuleRead DocFault
+with_values schema place members rule =
+    checked (fault_in (rule_piece place 5) 14) (is_none (value_missing (signature_of schema) rule)) (Ok (record { rule = rule; has_conditions = is_some members.conditions }))
 
 abbrev pub read_pieces : Presentation → List OpEntry → List (List ℕ) → ℕ → RuleMembers → Result RuleRead DocFault
 read_pieces schema ops taken place members =
     and_then (read_rule_head schema.objects taken (rule_piece place 0) members) (λ head.
-    and_then (read_sides schema ops place members) (λ sides.
-    and_then (read_l schema place head.kind sides members) (λ l.
-    and_then (read_r schema place head sides l members) (λ rule.
-    Ok (record { rule = rule; has_conditions = is_some members.conditions })))))
+    and_then (read_body schema ops place head.kind members) (λ body.
+    with_values schema place members (rule_with head body)))
 
 -- the names of rules
 abbrev pub names_of_rules : List RuleRead → List (List ℕ)
 names_of_rules rules = map (λ (read : RuleRead). read.rule.name) rules
 
+-- the rule at the place, where these names are taken
+abbrev pub read_rule_where : Presentation → List OpEntry → List (List ℕ) → ℕ → Data → Result RuleRead DocFault
+read_rule_where schema ops taken place value = and_then (some_or (fault_in (rule_piece place 0) 2) (rule_members value)) (read_pieces schema ops taken place)
+
 -- the rule behind these
 abbrev pub read_rule : Presentation → List OpEntry → List RuleRead → Data → Result RuleRead DocFault
-read_rule schema ops before value = and_then (some_or (fault_in (rule_piece (length before) 0) 2) (rule_members value))
-    (read_pieces schema ops (names_of_rules before) (length before))
+read_rule schema ops before value = read_rule_where schema ops (names_of_rules before) (length before) value
 
 -- the rules that are written, at most 256
 abbrev pub read_rules : Presentation → List OpEntry → Option Data → Result (List RuleRead) DocFault

@@ -1,7 +1,6 @@
 //! The rules of a document as they are built.
 
 ghost use Rattle.std.specs.Prelude.{◌≡◌, ◌≤◌, All, IfOk, true, Ok, length, map};
-ghost use Rattle.std.specs.List.{list_all};
 ghost use Rattle.rw_schema.specs.Presentation.{signature_of};
 ghost use Rattle.rw_terms.specs.OpEntries.{entries};
 ghost use Rattle.rw_rule.specs.PlainRules.{is_plain as is_plain_rule};
@@ -10,11 +9,11 @@ ghost use Rattle.rw_rule.specs.RuleParts.{rule_of_parts};
 ghost use Rattle.rw_doc.specs.Chain.{checked};
 ghost use Rattle.rw_doc.specs.Gives.{Gives};
 ghost use Rattle.rw_doc.specs.declared.end.ReadDocEnd.TheVariants.{Refused};
-ghost use Rattle.rw_docrule.specs.Documents as spec;
+ghost use Rattle.rw_docrule.specs.Built as spec;
 ghost use Rattle.rw_docrule.specs.Known.{IsRuleUnlessCyclic};
 ghost use Rattle.rw_docrule.specs.Reads.{rule_read};
 
-use crate::rules::RuleRead;
+use crate::RuleRead;
 use rw_doc::{ReadDocEnd, refused_of};
 use rw_rule::{Rule, RuleFault, is_plain};
 use rw_schema::{Schema, Section};
@@ -25,7 +24,7 @@ use std::alloc::Global;
 const NOT_BUILT: u8 = 16;
 
 /// The end of a reading at what is not built yet.
-pub(crate) fn not_built() -> ReadDocEnd
+pub fn not_built() -> ReadDocEnd
     ensures { result ≡ Refused spec.not_built }
 {
     refused_of(NOT_BUILT, Section::Whole)
@@ -70,15 +69,14 @@ fn build_rule(
 }
 
 /// The rules that are read, where the steps of each are built so far.
-pub(crate) fn build_rules(
+pub fn build_rules(
     alloc: Global,
     schema: &Schema,
     ops: &OpTable,
     reads: Vec<RuleRead>,
 ) -> Result<Vec<Rule>, ReadDocEnd>
     requires { All (λ read. IsRuleUnlessCyclic (signature_of schema.now) (length (entries ops.now)) (rule_of_parts read.parts)) reads.items }
-    ensures gives { Gives (λ rules. rules.items) result (checked spec.not_built (list_all spec.is_built (map rule_read reads.items))
-        (Ok (map (λ read. read.rule) (map rule_read reads.items)))) }
+    ensures gives { Gives (λ rules. rules.items) result (spec.build_rules (map rule_read reads.items)) }
     ensures over { IfOk result (λ rules. All (IsRuleOver (signature_of schema.now) (length (entries ops.now))) rules.items) }
     ensures plain { IfOk result (λ rules. All (λ rule. is_plain_rule rule ≡ true) rules.items) }
     ensures long { IfOk result (λ rules. length rules.items ≡ length reads.items) }

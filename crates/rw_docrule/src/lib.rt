@@ -1,13 +1,14 @@
-//! Documents: schemas, instances, rules, watches, spans and cospans that are read from JSON.
+//! The rules of a document, that are read from JSON.
 #![tactic(auto)]
 
 mod build;
-mod document;
 mod heads;
+mod maps;
 mod members;
-mod read;
+mod pieces;
 mod rules;
-mod watches;
+mod sides;
 
-pub use document::Document;
-pub use read::read_document;
+pub use build::{build_rules, not_built};
+pub use pieces::RuleRead;
+pub use rules::read_rules;

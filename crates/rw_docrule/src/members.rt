@@ -1,9 +1,9 @@
-//! The members of rules and watches.
+//! The members of rules.
 
 ghost use Rattle.std.specs.Prelude.{◌≡◌, option_map};
 ghost use Rattle.serde_json.specs.View.{view};
 ghost use Rattle.rw_docrule.specs.Heads as spec;
-ghost use Rattle.rw_docrule.specs.Members.{members_of_rule, members_of_watch};
+ghost use Rattle.rw_docrule.specs.Members.{members_of_rule};
 
 use rw_doc::has_only;
 use serde_json::Value;
@@ -21,9 +21,6 @@ const RULE_KEYS: [&str; 9] = [
     "right",
 ];
 
-/// The keys of a watch.
-const WATCH_KEYS: [&str; 3] = ["monic", "name", "pattern"];
-
 /// What is written of a rule.
 #[derive(Clone, Copy)]
 pub(crate) struct RuleMembers<'v> {
@@ -36,14 +33,6 @@ pub(crate) struct RuleMembers<'v> {
     pub(crate) r: &'v Value,
     pub(crate) monic: Option<&'v Value>,
     pub(crate) conditions: Option<&'v Value>,
-}
-
-/// What is written of a watch.
-#[derive(Clone, Copy)]
-pub(crate) struct WatchMembers<'v> {
-    pub(crate) name: &'v Value,
-    pub(crate) pattern: &'v Value,
-    pub(crate) monic: Option<&'v Value>,
 }
 
 /// The members that a rule must have, and those that it may have.
@@ -79,20 +68,4 @@ pub(crate) fn rule_members(value: &Value) -> Option<RuleMembers<'_>>
     } else {
         None
     }
-}
-
-/// The members of a watch, where there are no others.
-pub(crate) fn watch_members(value: &Value) -> Option<WatchMembers<'_>>
-    ensures { option_map members_of_watch result ≡ spec.watch_members (view value.now) }
-{
-    if !has_only(&WATCH_KEYS, value) {
-        return None;
-    }
-    let name = value.get("name")?;
-    let pattern = value.get("pattern")?;
-    Some(WatchMembers {
-        name,
-        pattern,
-        monic: value.get("monic"),
-    })
 }

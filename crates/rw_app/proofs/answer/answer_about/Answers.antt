@@ -1,6 +1,6 @@
 use Rattle.std.proofs.Common.{Ok}
 use Rattle.rw_terms.specs.OpEntries.{entries}
-use Rattle.rw_docrule.specs.Models.{document_lists}
+use Rattle.rw_document.specs.Models.{document_lists}
 use Rattle.rw_app.specs.Answers.{IsAnswerTo}
 use Rattle.rw_app.specs.AnswerTexts.{text_of_answer}
 use Rattle.rw_app.specs.Commands.{run}

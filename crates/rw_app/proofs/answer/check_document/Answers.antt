@@ -1,6 +1,6 @@
 -- The lengths are those of the kept lists.
 use Rattle.std.proofs.Common.{◌≡◌, List, ℕ, map, length}
-use Rattle.rw_docrule.specs.Models.{document_lists}
+use Rattle.rw_document.specs.Models.{document_lists}
 use Rattle.rw_app.specs.Kept.{lists_in}
 use Rattle.rw_app.proofs.KeptLists.{kept_lengths}
 use Rattle.rw_app.proofs.answer.check_document.Goals as goal

@@ -1,5 +1,5 @@
 use Rattle.std.proofs.Common.{◌≡◌, ℕ, List, map, None, refl, sym, ap, ◌∙◌}
-use Rattle.rw_docrule.specs.Models.{document_lists}
+use Rattle.rw_document.specs.Models.{document_lists}
 use Rattle.rw_lists.specs.News.{NewsLists, lists_of_entry, differences}
 use Rattle.rw_print.specs.Lines.{line, step_data}
 use Rattle.rw_app.specs.Kept.{lists_in}

@@ -1,6 +1,6 @@
 use Rattle.std.proofs.Common.{◌≡◌, ℕ, List, map, length, Some, refl, ap, ◌∙◌, arith}
 use Rattle.rw_spec.specs.Tabled.{Tabled}
-use Rattle.rw_docrule.specs.Models.{document_lists}
+use Rattle.rw_document.specs.Models.{document_lists}
 use Rattle.rw_lists.specs.News.{NewsLists, numbered_lists, differences}
 use Rattle.rw_print.specs.Lines.{line, step_data}
 use Rattle.rw_app.specs.Kept.{lists_in}

@@ -1,4 +1,4 @@
-use Rattle.rw_docrule.specs.Models.{document_lists}
+use Rattle.rw_document.specs.Models.{document_lists}
 use Rattle.rw_app.proofs.OneRun.{one_run}
 use Rattle.rw_app.proofs.SomeRun.{some_run}
 use Rattle.rw_app.proofs.laws.has_one_run.Goals as goal

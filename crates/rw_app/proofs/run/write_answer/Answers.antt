@@ -1,5 +1,5 @@
 use Rattle.rw_terms.specs.OpEntries.{entries}
-use Rattle.rw_docrule.specs.Documents.{read_document}
+use Rattle.rw_document.specs.Documents.{read_document}
 use Rattle.rw_app.specs.AnswerTexts.{text_of_answer}
 use Rattle.rw_app.specs.Commands.{asked_for}
 use Rattle.rw_app.proofs.AnswerStatuses.{status_of_answer}

@@ -1,7 +1,7 @@
 use Rattle.std.proofs.lemmas.Result.{IfOk-weaker}
 use Rattle.rw_terms.specs.OpEntries.{entries}
 use Rattle.rw_terms.specs.OpTables.{codes_of}
-use Rattle.rw_docrule.specs.Models.{document_lists}
+use Rattle.rw_document.specs.Models.{document_lists}
 use Rattle.rw_app.proofs.Telling.{run_told}
 use Rattle.rw_app.proofs.runner.run_document.Goals as goal
 

@@ -1,7 +1,7 @@
 use Rattle.std.proofs.Common.{◌≡◌, ℕ, [], ◌∷◌, ◌++◌, refl, ap, subst, ◌∙◌, arith}
 use Rattle.rw_terms.specs.OpEntries.{entries}
 use Rattle.rw_terms.specs.OpTables.{codes_of}
-use Rattle.rw_docrule.specs.Models.{document_lists}
+use Rattle.rw_document.specs.Models.{document_lists}
 use Rattle.rw_app.specs.Runners.{HasBegun}
 use Rattle.rw_app.proofs.Leading.{begun_more, run_ended, run_spent}
 use Rattle.rw_app.proofs.runner.run_rule.Goals as goal

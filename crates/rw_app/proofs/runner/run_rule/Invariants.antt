@@ -2,7 +2,7 @@
 use Rattle.std.proofs.Common.{List}
 use Rattle.rw_terms.specs.OpEntries.{entries}
 use Rattle.rw_terms.specs.OpTables.{codes_of}
-use Rattle.rw_docrule.specs.Models.{document_lists}
+use Rattle.rw_document.specs.Models.{document_lists}
 use Rattle.rw_app.specs.Runners.{HasBegun, IsWorld}
 use Rattle.rw_app.specs.Runs.{Firing}
 use Rattle.rw_app.proofs.runner.run_rule.Given as goal

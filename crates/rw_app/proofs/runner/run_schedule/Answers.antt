@@ -3,7 +3,7 @@ use Rattle.std.proofs.Common.{◌≡◌, ◌∙◌, [], None, ap, sym, refl, sli
 use Rattle.std.specs.Option.{option_copied}
 use Rattle.rw_terms.specs.OpEntries.{entries}
 use Rattle.rw_terms.specs.OpTables.{codes_of}
-use Rattle.rw_docrule.specs.Models.{document_lists}
+use Rattle.rw_document.specs.Models.{document_lists}
 use Rattle.rw_app.proofs.Leading.{none_first, run_without_rules}
 use Rattle.rw_app.specs.Runners.{at_first}
 use Rattle.rw_app.proofs.runner.run_schedule.Goals as goal

@@ -8,7 +8,7 @@ use Rattle.rw_rule.specs.PlainRules.{is_plain}
 use Rattle.rw_rule.specs.RuleFaults.{IsRuleOver}
 use Rattle.rw_rule.specs.RuleLists.{RuleLists}
 use Rattle.rw_rule.specs.RuleParts.{rule_of_parts}
-use Rattle.rw_docrule.specs.declared.rules.RuleRead as declared
+use Rattle.rw_docrule.specs.declared.pieces.RuleRead as declared
 use Rattle.rw_docrule.specs.Known.{IsRuleUnlessCyclic}
 use Rattle.rw_docrule.specs.Reads.{rule_read}
 use Rattle.rw_docrule.proofs.BuiltRules.{BuiltSo, one_more}

@@ -7,7 +7,7 @@ use Rattle.rw_schema.specs.Presentation.{signature_of}
 use Rattle.rw_terms.specs.OpEntries.{entries}
 use Rattle.rw_rule.specs.RuleParts.{rule_of_parts}
 use Rattle.rw_doc.proofs.Readings.{read_more_behind}
-use Rattle.rw_docrule.specs.declared.rules.RuleRead as declared
+use Rattle.rw_docrule.specs.declared.pieces.RuleRead as declared
 use Rattle.rw_docrule.specs.Known.{IsRuleUnlessCyclic}
 use Rattle.rw_docrule.specs.Reads.{rule_read}
 use Rattle.rw_docrule.specs.Rules as spec

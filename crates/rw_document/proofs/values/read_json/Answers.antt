@@ -1,0 +1,11 @@
+-- The text is there exactly where the bytes are UTF-8.
+use Rattle.std.proofs.Common.{refl}
+use Rattle.std.proofs.lemmas.Str.{is_utf8-from_IsUtf8}
+use Rattle.rw_doc.proofs.Readings.{not_utf8}
+use Rattle.rw_document.proofs.values.read_json.Goals as goal
+
+pub returns-in-Ok : goal.returns-in-Ok
+returns-in-Ok c = rw (is_utf8-from_IsUtf8 c.args.bytes.now c.in-Ok.ensures.cases.1, ← c.in-Ok.ensures.cases.0) c.parse.ensures
+
+pub returns-in-Err : goal.returns-in-Err
+returns-in-Err c = rw (not_utf8 c.args.bytes.now c.in-Err.ensures.cases.0, c.refused.ensures) refl

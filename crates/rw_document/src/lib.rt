@@ -1,0 +1,11 @@
+//! Documents: schemas, instances, rules, watches, spans and cospans that are read from JSON.
+#![tactic(auto)]
+
+mod document;
+mod ends;
+mod goals;
+mod read;
+mod values;
+
+pub use document::Document;
+pub use read::read_document;

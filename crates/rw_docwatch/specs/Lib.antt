@@ -1,0 +1,5 @@
+pub mod Heads
+pub mod Known
+pub mod Members
+pub mod Reads
+pub mod Watches
