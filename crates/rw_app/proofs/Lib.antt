@@ -8,8 +8,10 @@ pub mod Leading
 pub mod Lengths
 pub mod Listable
 pub mod Obstructed
+pub mod OneAnswer
 pub mod OneRun
 pub mod Picking
+pub mod ReadSides
 pub mod Seeds
 pub mod SomeRun
 pub mod Telling

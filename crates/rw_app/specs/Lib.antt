@@ -5,6 +5,7 @@ pub mod Commands
 pub mod Endings
 pub mod Kept
 pub mod Limits
+pub mod OneAnswer
 pub mod OneRun
 pub mod Operations
 pub mod Picked

@@ -1,16 +1,13 @@
 -- The values of the lines of pushouts and pullbacks have no floats.
-use Rattle.std.proofs.Common.{◌≡◌, ℕ, ℤ, pos, negsuc, false, Option, Some, None, List, map, length, refl}
-use Rattle.serde_json.specs.Data.{number}
-use Rattle.serde_json.specs.Find.{of_integer}
+use Rattle.std.proofs.Common.{◌≡◌, ℕ, false, Option, List, map, length, refl}
 use Rattle.serde_json.specs.Written.{has_float}
 use Rattle.rw_schema.specs.declared.atom.Atom.{Atom}
-use Rattle.rw_schema.specs.declared.atom.Atom.TheVariants as atoms
 use Rattle.rw_schema.specs.declared.ids.AttrId.{AttrId}
 use Rattle.rw_schema.specs.declared.ids.ObjectId.{ObjectId}
 use Rattle.rw_schema.specs.Presentation.{Presentation}
 use Rattle.rw_schema.specs.RowLists.{RowLists}
 use Rattle.rw_print.specs.Limits.{cells_data, limit_data, clash_data}
-use Rattle.rw_print.specs.Atoms.{atom_data, cell_data}
+use Rattle.rw_print.specs.Atoms.{cell_data}
 use Rattle.rw_print.specs.Lines.{list_data}
 use Rattle.rw_print.proofs.PlainAtoms.{no_float_in_atom, no_float_in_cell}
 use Rattle.rw_print.proofs.Plain.{no_float_in, no_float_in_counts, no_float_in_tuples}

@@ -1,9 +1,7 @@
 -- The lines of pushouts and pullbacks.
-use Rattle.std.specs.Prelude.{ℕ, List, [], ◌∷◌, codes, map, length, Option, Some, None}
-use Rattle.serde_json.specs.Data.{Data, null, boolean, number, string, object, member, no_members}
-use Rattle.serde_json.specs.Find.{of_integer}
+use Rattle.std.specs.Prelude.{ℕ, List, [], ◌∷◌, codes, map, length, Option}
+use Rattle.serde_json.specs.Data.{Data, string, object, member, no_members}
 use Rattle.rw_schema.specs.declared.atom.Atom.{Atom}
-use Rattle.rw_schema.specs.declared.atom.Atom.TheVariants as atoms
 use Rattle.rw_schema.specs.declared.ids.AttrId.{AttrId}
 use Rattle.rw_schema.specs.declared.ids.ObjectId.{ObjectId}
 use Rattle.rw_schema.specs.Presentation.{Presentation}
