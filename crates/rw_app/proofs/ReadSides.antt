@@ -36,8 +36,6 @@ use Rattle.rw_docspan.specs.Maps.{read_map}
 use Rattle.rw_docspan.specs.Spans.{SpanLists, read_span, read_span_pieces, span_members, span_piece}
 use Rattle.rw_document.specs.Documents as documents
 use Rattle.rw_document.specs.Models.{DocumentLists}
-use Rattle.rw_docrule.specs.Rules.{RuleRead, names_of_rules, read_rules}
-use Rattle.rw_docwatch.specs.Watches.{read_watches}
 
 -- ---- spans
 
@@ -127,36 +125,47 @@ pub record IsReadWell (document : DocumentLists) : Type 0 where
   pub category : IsCategory (signature_of document.schema)
   pub span : IfSome document.span HasSidesApart
 
--- the document with rules and watches that were read
-spans_well : (schema : Presentation) → IsCategory (signature_of schema) → (table : Tabled) (rules : List RuleRead) (watches : List WatchLists) (value : Data) (document : DocumentLists)
-    → documents.read_spans schema table rules watches value ≡ Ok document → IsReadWell document
-spans_well schema category table rules watches value =
-    chain IsReadWell (documents.span_or_none (signature_of schema) (get (codes "span") value)) _
-    (λ span span_is. chain IsReadWell (documents.cospan_or_none (signature_of schema) (get (codes "cospan") value)) _
-    (λ cospan cospan_is. checked_then IsReadWell documents.not_built (not (documents.has_more value) && list_all documents.is_built rules) _
-    (λ built document is.
-    let read : DocumentLists = record { schema = schema; table = table; rules = map (λ (read : RuleRead). read.rule) rules; watches = watches; span = span; cospan = cospan } in
-    let same : read ≡ document = cc in
-    subst IsReadWell same (record { category = category; span = span_or_none_apart (signature_of schema) (get (codes "span") value) span span_is }))))
+-- the sides of the span that is written are apart
+ends_well : (schema : Presentation) (value : Data) (ends : documents.Ends) → documents.read_ends (signature_of schema) value ≡ Ok ends → IfSome ends.span HasSidesApart
+ends_well schema value =
+    let IsWell : documents.Ends → Type 0 = λ ends. IfSome ends.span HasSidesApart in
+    chain IsWell (documents.span_or_none (signature_of schema) (get (codes "span") value)) _
+    (λ span span_is. chain IsWell (documents.cospan_or_none (signature_of schema) (get (codes "cospan") value)) _
+    (λ cospan cospan_is ends is.
+    let read : documents.Ends = record { span = span; cospan = cospan } in
+    let same : read ≡ ends = cc in
+    subst IsWell same (span_or_none_apart (signature_of schema) (get (codes "span") value) span span_is)))
+
+-- and so they are with the rules and watches that are written
+others_well : (ops : List OpEntry) (schema : Presentation) (value : Data) (others : documents.Others) → documents.read_others schema ops value ≡ Ok others
+    → IfSome others.ends.span HasSidesApart
+others_well ops schema value =
+    let IsWell : documents.Others → Type 0 = λ others. IfSome others.ends.span HasSidesApart in
+    chain IsWell (documents.read_goals schema ops value) _
+    (λ goals goals_are. chain IsWell (documents.read_ends (signature_of schema) value) _
+    (λ ends ends_are. chain IsWell (documents.build_all value goals.rules) _
+    (λ rules rules_are others is.
+    let read : documents.Others = record { rules = rules; watches = goals.watches; ends = ends } in
+    let same : read ≡ others = cc in
+    subst IsWell same (ends_well schema value ends ends_are))))
 
 -- the document over a schema that was read
-others_well : (ops : List OpEntry) (schema : Presentation) → IsCategory (signature_of schema) → (table : Tabled) (value : Data) (document : DocumentLists)
-    → documents.read_others ops schema table value ≡ Ok document → IsReadWell document
-others_well ops schema category table value =
-    chain IsReadWell (read_rules schema ops (get (codes "rules") value)) _
-    (λ rules rules_are. chain IsReadWell (read_watches schema (names_of_rules rules) (get (codes "watches") value)) _
-    (λ watches watches_are. spans_well schema category table rules watches value))
+over_well : (ops : List OpEntry) (schema : Presentation) → IsCategory (signature_of schema) → (value : Data) (document : DocumentLists)
+    → documents.read_over schema ops value ≡ Ok document → IsReadWell document
+over_well ops schema category value =
+    chain IsReadWell (documents.instance_or_none (signature_of schema) (get (codes "instance") value)) _
+    (λ table table_is. chain IsReadWell (documents.read_others schema ops value) _
+    (λ others others_are document is.
+    let read : DocumentLists = documents.document_with schema table others in
+    let same : read ≡ document = cc in
+    subst IsReadWell same (record { category = category; span = others_well ops schema value others others_are })))
 
 -- the document that a value is
 value_well : (ops : List OpEntry) (value : Data) (document : DocumentLists) → documents.read_value ops value ≡ Ok document → IsReadWell document
 value_well ops value =
-    checked_then IsReadWell (fault_of 2 Whole) (has_only documents.document_keys value) _
-    (λ keys. chain IsReadWell (some_or (fault_of 2 Whole) (get (codes "schema") value)) _
-    (λ schema_value schema_there. chain IsReadWell (some_or (fault_of 2 Whole) (get (codes "format") value)) _
-    (λ format format_there. chain IsReadWell (documents.read_format format) _
-    (λ number number_is. chain IsReadWell (schemas.read_schema schema_value) _
-    (λ schema schema_is. chain IsReadWell (documents.instance_or_none (signature_of schema) (get (codes "instance") value)) _
-    (λ table table_is. others_well ops schema (presents_category schema (schema_sound schema_value schema schema_is)) table value))))))
+    chain IsReadWell (documents.schema_in value) _
+    (λ written written_is. chain IsReadWell (schemas.read_schema written) _
+    (λ schema schema_is. over_well ops schema (presents_category schema (schema_sound written schema schema_is)) value))
 
 -- the document that bytes are
 pub document_well : (ops : List OpEntry) (bytes : List ℕ) (document : DocumentLists) → documents.read_document ops bytes ≡ Ok document → IsReadWell document
