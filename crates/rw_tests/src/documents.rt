@@ -110,3 +110,18 @@ pub const SYMMETRIC_CUT: &str =
 "rules":[{"name":"cut","kind":"dpo","monic":["V","E"],
 "left":{"parts":[2,2],"rows":[[0,1],[1,0],[1,0]]},"keep":{"parts":[2,0],"rows":[[],[],[]]},"right":{"parts":[2,0],"rows":[[],[],[]]},
 "l":[[0,1],[]],"r":[[0,1],[]]}]}"#;
+
+/// Two points that are their own partners, a rule that replaces such a point by two that are each other's, and the
+/// pattern of two partners.
+pub const PARTNERS: &str =
+    r#"{"format":1,"schema":{"objects":["V"],"arrows":[["partner","V","V"]],"equations":[["V",["partner","partner"],[]]]},
+"instance":{"parts":[2],"rows":[[0,1]]},
+"rules":[{"name":"replace","kind":"dpo","monic":["V"],
+"left":{"parts":[1],"rows":[[0]]},"keep":{"parts":[0],"rows":[[]]},"right":{"parts":[2],"rows":[[1,0]]},
+"l":[[]],"r":[[]]}],
+"watches":[{"name":"pair","monic":["V"],"pattern":{"parts":[2],"rows":[[1,0]]}}]}"#;
+
+/// A vertex, and its pattern under a name of other letters.
+pub const NAMED: &str =
+    r#"{"format":1,"schema":{"objects":["Größe"],"arrows":[]},"instance":{"parts":[1],"rows":[]},
+"watches":[{"name":"größe","pattern":{"parts":[1],"rows":[]}}]}"#;

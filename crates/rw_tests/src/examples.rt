@@ -1,16 +1,7 @@
 //! The documents of the folder `examples`, with their commands and what they print. `examples/check` looks whether the
 //! texts are those of the files.
 
-use crate::tests::check;
-use std::test::Fail;
-
-/// A document with a command, and what it prints.
-struct Example {
-    words: &'static [&'static str],
-    document: &'static str,
-    status: u8,
-    printed: &'static str,
-}
+use crate::commands::Example;
 
 /// A path of two edges, and the pattern of an edge.
 const PATH: Example = Example {
@@ -371,7 +362,8 @@ const PRODUCT: Example = Example {
 "#,
 };
 
-const EXAMPLES: [Example; 15] = [
+/// All of them.
+pub(crate) const EXAMPLES: [Example; 15] = [
     PATH,
     TRIANGLE,
     PETRI,
@@ -388,19 +380,3 @@ const EXAMPLES: [Example; 15] = [
     MESHES,
     PRODUCT,
 ];
-
-#[test]
-fn examples_print_what_is_expected(rt: HostRuntime) -> Result<(), Fail> {
-    for example in &EXAMPLES {
-        let document = example.document.as_bytes();
-        check(
-            &rt,
-            rt.alloc(),
-            example.words,
-            document,
-            example.status,
-            example.printed,
-        )?;
-    }
-    Ok(())
-}

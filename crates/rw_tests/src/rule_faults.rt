@@ -1,8 +1,6 @@
 //! The first fault of documents: at least one document for each code of each piece of a rule and of a watch.
 
-use crate::faults::check_cases;
-use crate::tests::check;
-use std::test::Fail;
+use crate::tables::Table;
 
 /// The start of a document up to its rules and watches: vertices with a partner each, a number and a text, and edges.
 const START: &str =
@@ -103,86 +101,125 @@ const WATCHES: &str = r#"
 [{"name":"x","pattern":{"parts":[2,0],"rows":[[],[0,0]]}}] => {"at":[0,1,0],"fault":10,"section":"watches"}
 [{"name":"x","pattern":{"parts":[1,0],"rows":[[],[0]],"cells":[["w",0,{"op":"add","args":[1,2]}]]}}] => {"at":[0,1,0],"fault":14,"section":"watches"}"#;
 
-#[test]
-fn faults_of_heads(rt: HostRuntime) -> Result<(), Fail> {
-    let alloc = rt.alloc();
-    let rules = format!(in alloc; "{START}\"rules\":")?;
-    assert!(rt; check_cases(&rt, alloc, rules.as_str(), RULES, "}")? == 3);
-    let before = format!(in alloc; "{START}\"rules\":[{{")?;
-    let after =
-        r#","left":{"parts":[0,0],"rows":[[],[]]},"keep":{"parts":[0,0],"rows":[[],[]]},"right":{"parts":[0,0],"rows":[[],[]]},"l":[[],[]],"r":[[],[]]}]}"#;
-    assert!(rt; check_cases(&rt, alloc, before.as_str(), HEADS, after)? == 12);
-    Ok(())
-}
+/// The start of a document up to the left pattern of a rule.
+const LEFT: &str = r#""rules":[{"name":"r","kind":"dpo","left":"#;
 
-#[test]
-fn faults_of_sides(rt: HostRuntime) -> Result<(), Fail> {
-    let alloc = rt.alloc();
-    let left = format!(in alloc; "{START}\"rules\":[{{\"name\":\"r\",\"kind\":\"dpo\",\"left\":")?;
-    let others = r#","keep":0,"right":0,"l":0,"r":0}]}"#;
-    assert!(rt; check_cases(&rt, alloc, left.as_str(), LEFTS, others)? == 17);
-    let known =
-        r#"{"parts":[1,0],"rows":[[],[0]],"cells":[["w",0,{"var":"x"}],["t",0,{"var":"y"}]]}"#;
-    let keep = format!(in alloc; "{}{known},\"keep\":", left.as_str())?;
-    assert!(rt;
-        check_cases(
-            &rt,
-            alloc,
-            keep.as_str(),
-            KEEPS,
-            r#","right":0,"l":0,"r":0}]}"#
-        )? == 4
-    );
-    let right = format!(in alloc;
-        "{}{{\"parts\":[1,0],\"rows\":[[],[0]]}},\"right\":",
-        keep.as_str()
-    )?;
-    assert!(rt; check_cases(&rt, alloc, right.as_str(), RIGHTS, r#","l":0,"r":0}]}"#)? == 12);
-    Ok(())
-}
+/// A left pattern with the number `x` and the text `y`.
+const KNOWN: &str =
+    r#"{"parts":[1,0],"rows":[[],[0]],"cells":[["w",0,{"var":"x"}],["t",0,{"var":"y"}]]}"#;
 
-#[test]
-fn faults_of_maps(rt: HostRuntime) -> Result<(), Fail> {
-    let alloc = rt.alloc();
-    let three = r#"{"parts":[3,0],"rows":[[],[1,0,2]]}"#;
-    let two = r#"{"parts":[2,0],"rows":[[],[0,1]]}"#;
-    let left = format!(in alloc;
-        "{START}\"rules\":[{{\"name\":\"r\",\"kind\":\"dpo\",\"left\":{three},\"keep\":{two},\"right\":{three},\"r\":0,\"l\":"
-    )?;
-    assert!(rt; check_cases(&rt, alloc, left.as_str(), TO_LEFTS, "}]}")? == 6);
-    let right = format!(in alloc;
-        "{START}\"rules\":[{{\"name\":\"r\",\"kind\":\"dpo\",\"left\":{two},\"keep\":{two},\"right\":{three},\"l\":[[0,1],[]],\"r\":"
-    )?;
-    assert!(rt; check_cases(&rt, alloc, right.as_str(), TO_RIGHTS, "}]}")? == 4);
-    Ok(())
-}
+/// Two partners and one alone.
+const THREE: &str = r#"{"parts":[3,0],"rows":[[],[1,0,2]]}"#;
 
-#[test]
-fn faults_of_watches(rt: HostRuntime) -> Result<(), Fail> {
-    let alloc = rt.alloc();
-    let before = format!(in alloc;
-        "{START}\"rules\":[{{\"name\":\"r\",\"kind\":\"dpo\",\"left\":{{\"parts\":[0,0],\"rows\":[[],[]]}},\"keep\":{{\"parts\":[0,0],\"rows\":[[],[]]}},\"right\":{{\"parts\":[0,0],\"rows\":[[],[]]}},\"l\":[[],[]],\"r\":[[],[]]}}],\"watches\":"
-    )?;
-    assert!(rt; check_cases(&rt, alloc, before.as_str(), WATCHES, "}")? == 13);
-    Ok(())
-}
+/// Two partners.
+const TWO: &str = r#"{"parts":[2,0],"rows":[[],[0,1]]}"#;
 
-// A term of 33 levels is one level too deep.
-#[test]
-fn limits_of_terms(rt: HostRuntime) -> Result<(), Fail> {
-    let alloc = rt.alloc();
-    let mut term = String::new(alloc);
-    for _level in 0..32u32 {
-        term.push_str(r#"{"op":"add","args":["#)?;
-    }
-    term.push_str("1")?;
-    for _level in 0..32u32 {
-        term.push_str(",1]}")?;
-    }
-    let before = format!(in alloc;
-        "{START}\"watches\":[{{\"name\":\"x\",\"pattern\":{{\"parts\":[1,0],\"rows\":[[],[0]],\"cells\":[[\"w\",0,"
-    )?;
-    let deep = format!(in alloc; "{}{}]]}}}}]}}", before.as_str(), term.as_str())?;
-    let line = "{\"at\":[0,1,0],\"fault\":4,\"section\":\"watches\"}\n";
-    check(&rt, alloc, &["check"], deep.as_bytes(), 3, line)
-}
+/// The tables of this file.
+pub(crate) const RULE_FAULTS: [Table; 8] = [
+    Table {
+        words: &["check"],
+        before: &[START, r#""rules":"#],
+        pieces: RULES,
+        after: "}",
+        status: 3,
+        printed_before: "",
+        printed_after: "\n",
+        count: 3,
+    },
+    Table {
+        words: &["check"],
+        before: &[START, r#""rules":[{"#],
+        pieces: HEADS,
+        after: r#","left":{"parts":[0,0],"rows":[[],[]]},"keep":{"parts":[0,0],"rows":[[],[]]},"right":{"parts":[0,0],"rows":[[],[]]},"l":[[],[]],"r":[[],[]]}]}"#,
+        status: 3,
+        printed_before: "",
+        printed_after: "\n",
+        count: 12,
+    },
+    Table {
+        words: &["check"],
+        before: &[START, LEFT],
+        pieces: LEFTS,
+        after: r#","keep":0,"right":0,"l":0,"r":0}]}"#,
+        status: 3,
+        printed_before: "",
+        printed_after: "\n",
+        count: 17,
+    },
+    Table {
+        words: &["check"],
+        before: &[START, LEFT, KNOWN, r#","keep":"#],
+        pieces: KEEPS,
+        after: r#","right":0,"l":0,"r":0}]}"#,
+        status: 3,
+        printed_before: "",
+        printed_after: "\n",
+        count: 4,
+    },
+    Table {
+        words: &["check"],
+        before: &[
+            START,
+            LEFT,
+            KNOWN,
+            r#","keep":{"parts":[1,0],"rows":[[],[0]]},"right":"#,
+        ],
+        pieces: RIGHTS,
+        after: r#","l":0,"r":0}]}"#,
+        status: 3,
+        printed_before: "",
+        printed_after: "\n",
+        count: 12,
+    },
+    Table {
+        words: &["check"],
+        before: &[
+            START,
+            LEFT,
+            THREE,
+            r#","keep":"#,
+            TWO,
+            r#","right":"#,
+            THREE,
+            r#","r":0,"l":"#,
+        ],
+        pieces: TO_LEFTS,
+        after: "}]}",
+        status: 3,
+        printed_before: "",
+        printed_after: "\n",
+        count: 6,
+    },
+    Table {
+        words: &["check"],
+        before: &[
+            START,
+            LEFT,
+            TWO,
+            r#","keep":"#,
+            TWO,
+            r#","right":"#,
+            THREE,
+            r#","l":[[0,1],[]],"r":"#,
+        ],
+        pieces: TO_RIGHTS,
+        after: "}]}",
+        status: 3,
+        printed_before: "",
+        printed_after: "\n",
+        count: 4,
+    },
+    Table {
+        words: &["check"],
+        before: &[
+            START,
+            r#""rules":[{"name":"r","kind":"dpo","left":{"parts":[0,0],"rows":[[],[]]},"keep":{"parts":[0,0],"rows":[[],[]]},"right":{"parts":[0,0],"rows":[[],[]]},"l":[[],[]],"r":[[],[]]}],"watches":"#,
+        ],
+        pieces: WATCHES,
+        after: "}",
+        status: 3,
+        printed_before: "",
+        printed_after: "\n",
+        count: 13,
+    },
+];

@@ -2,10 +2,10 @@
 use Rattle.std.proofs.Common.{◌≡◌, take}
 use Rattle.rw_app.specs.Operations.{usual_operations}
 use Rattle.rw_terms.specs.OpEntries.{entries}
-use Rattle.rw_tests.proofs.tests.finish.Given as goal
+use Rattle.rw_tests.proofs.commands.finish.Given as goal
 
 abbrev pub ghosts-run : goal.ghosts-run
-ghosts-run g a = record { name = a.blank.name; parts = a.blank.parts }
+ghosts-run a = record { name = a.blank.name; parts = a.blank.parts }
 
 abbrev pub invariant-loop-name : goal.invariant-loop-name
-invariant-loop-name g l = entries l.ops ≡ take l.name-index usual_operations
+invariant-loop-name l = entries l.ops ≡ take l.name-index usual_operations
