@@ -10,8 +10,6 @@ mod kinds;
 mod op;
 mod table;
 mod term;
-#[cfg(test)]
-mod tests;
 mod valuation;
 
 pub use code::OpCode;
