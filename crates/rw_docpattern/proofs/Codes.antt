@@ -1,9 +1,9 @@
 -- A reading, test by test, tells the least code of a table.
-use Rattle.std.proofs.Common.{◌≡◌, ◌⊎◌, inl, inr, ℕ, ◌<◌, ◌≤◌, Bool, true, false, Option, Some, None, Result, Ok, Err, refl, arith}
+use Rattle.std.proofs.Common.{◌≡◌, inl, inr, ℕ, ◌<◌, ◌≤◌, Bool, true, false, Option, Some, None, Result, Ok, Err, refl, arith}
 use Rattle.rw_doc.specs.declared.fault.DocFault.{DocFault}
 use Rattle.rw_doc.specs.declared.piece.Piece.{Piece}
 use Rattle.rw_doc.specs.Chain.{and_then, checked, some_or}
-use Rattle.rw_doc.specs.Entries.{HasNone, IsLeastCode, no_code}
+use Rattle.rw_doc.specs.Entries.{no_code}
 use Rattle.rw_doc.specs.Pieces.{fault_in}
 use Rattle.rw_docpattern.specs.Codes.{IsFaultOf, TellsLeast, row}
 

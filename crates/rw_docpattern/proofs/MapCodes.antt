@@ -1,14 +1,13 @@
 -- Readings of maps and of monic objects tell the least code of their tables.
-use Rattle.std.proofs.Common.{◌≡◌, ◌≤◌, ◌<◌, ◌==◌, ◌≢◌, ◌⊎◌, inl, inr, ◌+◌, ℕ, zero, suc, Bool, true, false, nat_lt, length, Option, Some, None, option_map, IsSomeAnd, Result, Ok, Err, List, [], ◌∷◌, slice_get, refl, sym, ◌∙◌, ap, subst, arith, add-zero, zero-add}
+use Rattle.std.proofs.Common.{◌≡◌, ◌≤◌, ◌<◌, ◌==◌, ◌⊎◌, inl, inr, ◌+◌, ℕ, suc, Bool, true, false, nat_lt, length, Option, Some, None, option_map, Result, Ok, Err, List, [], ◌∷◌, slice_get, refl, sym, ◌∙◌, ap, subst, arith, add-zero, zero-add}
 use Rattle.std.specs.List.{Any}
 use Rattle.std.proofs.lemmas.Bool.{eqb-false, eqb-true, ltb-false, ltb-true}
 use Rattle.serde_json.specs.Data.{Data}
 use Rattle.rw_schema.specs.declared.ids.ObjectId.{ObjectId}
-use Rattle.rw_schema.specs.declared.signature.ArrowEnds.{ArrowEnds}
 use Rattle.rw_schema.specs.First.{first_in, fault_unless, or_else}
 use Rattle.rw_schema.specs.RowLists.{list_at}
 use Rattle.rw_schema.specs.Signature.{Signature}
-use Rattle.rw_schema.proofs.Firsts.{none_at, or_else_none, passed_unless}
+use Rattle.rw_schema.proofs.Firsts.{none_at, passed_unless}
 use Rattle.rw_pattern.specs.declared.map_fault.MapFault.{MapFault}
 use Rattle.rw_pattern.specs.declared.map_fault.MapFault.TheVariants.{Shape, Range, NotNatural}
 use Rattle.rw_pattern.specs.MapFaults.{commutes_at, has_map_shape, image_fault, map_fault, square_fault}

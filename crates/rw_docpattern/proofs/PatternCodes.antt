@@ -1,9 +1,8 @@
 -- Readings of patterns tell the least code of their tables.
-use Rattle.std.proofs.Common.{◌≡◌, ◌⊎◌, ◌≢◌, inl, inr, ◌<◌, ◌≤◌, ◌&&◌, ℕ, Bool, true, false, nat_le, length, Option, Some, None, is_none, option_map, position, IsSomeAnd, Result, Ok, List, refl, sym, ◌∙◌, ap, arith}
+use Rattle.std.proofs.Common.{◌≡◌, ◌⊎◌, ◌≢◌, inl, inr, ◌≤◌, ◌&&◌, ℕ, Bool, true, false, nat_le, length, Option, Some, None, is_none, option_map, position, IsSomeAnd, Result, Ok, List, refl, sym, ◌∙◌, ap, arith}
 use Rattle.std.specs.List.{Any, list_all}
 use Rattle.std.specs.Str.{bytes_eq}
 use Rattle.std.proofs.lemmas.Bool.{leb-false, leb-true}
-use Rattle.serde_json.specs.Data.{Data}
 use Rattle.rw_schema.specs.declared.atom.Kind.{Kind}
 use Rattle.rw_schema.specs.declared.parts.AttrDef.{AttrDef}
 use Rattle.rw_schema.specs.Presentation.{Presentation, signature_of}
@@ -31,7 +30,7 @@ use Rattle.rw_docpattern.specs.Sets.{are_sets, fits_left, sets_of, with_sets}
 use Rattle.rw_docpattern.specs.Terms.{is_within_limits}
 use Rattle.rw_docpattern.specs.Variables.{kinds_of, number_in, variables_of}
 use Rattle.rw_docpattern.proofs.Codes.{IsFrom, from_none, from_row, here, past, tells_checked, tells_checked_then, tells_none, tells_some, tells_some_then}
-use Rattle.rw_docpattern.proofs.Somewhere.{and_some, any_fails, any_given, any_missing, any_so, any_source, any_with, any_without, none_fails, none_missing, some_and}
+use Rattle.rw_docpattern.proofs.Somewhere.{any_fails, any_given, any_missing, any_so, any_source, any_with, any_without, none_fails, none_missing}
 
 -- two of three tests passed: one of them failed
 one_of_three : (first second third : Bool) → (first && second && third) ≡ false → (first ≡ false) ⊎ (second ≡ false) ⊎ (third ≡ false)

@@ -1,5 +1,5 @@
 -- Readings, piece by piece and item by item, tell the first fault.
-use Rattle.std.proofs.Common.{◌≡◌, ◌∙◌, ◌⊎◌, inl, inr, ◌<◌, ◌≤◌, ◌+◌, ℕ, zero, suc, Bool, true, false, nat_le, Option, Some, None, unwrap_or, IsSomeAnd, Result, Ok, Err, List, [], ◌∷◌, ◌++◌, length, take, slice_get, refl, sym, ap, subst, arith, append_assoc, length-append}
+use Rattle.std.proofs.Common.{◌≡◌, inl, inr, ◌<◌, ◌≤◌, ℕ, zero, suc, Bool, true, false, nat_le, Option, Some, None, unwrap_or, IsSomeAnd, Result, Ok, Err, List, [], ◌∷◌, ◌++◌, length, take, slice_get, refl, sym, ap, subst, arith, append_assoc, length-append}
 use Rattle.std.proofs.lemmas.Bool.{cases_lt, leb-false, leb-true}
 use Rattle.std.proofs.lemmas.List.{append-nil}
 use Rattle.serde_json.specs.Data.{Data}
@@ -7,10 +7,9 @@ use Rattle.rw_schema.specs.declared.section.Section.{Section}
 use Rattle.rw_doc.specs.declared.fault.DocFault.{DocFault}
 use Rattle.rw_doc.specs.declared.piece.Piece.{Piece}
 use Rattle.rw_doc.specs.Chain.{and_then, checked, each_after, some_or}
-use Rattle.rw_doc.specs.Entries.{HasNone, IsFirstEntry, IsLeastCode, Tells, no_code}
+use Rattle.rw_doc.specs.Entries.{HasNone, IsLeastCode, Tells, no_code}
 use Rattle.rw_doc.specs.Faults.{fault_at, fault_of}
 use Rattle.rw_doc.specs.Json.{as_list}
-use Rattle.rw_doc.specs.Pieces.{fault_in}
 use Rattle.rw_doc.specs.Schemas.{read_list_or_none}
 use Rattle.rw_docpattern.specs.Codes.{TellsLeast, row}
 use Rattle.rw_docpattern.specs.PieceCodes.{HasNoneAmong, HasNoneIn, IsFaultIn, IsFaultOfItems, ItemHas, ListHas, TellsFirstPiece, TellsList, items_written, no_piece, own_piece, piece_row}
