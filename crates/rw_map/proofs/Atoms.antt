@@ -1,7 +1,6 @@
 -- Atoms that are kept.
-use Rattle.std.proofs.Common.{◌≡◌, true, false, Option, Some, None, refl, ap}
+use Rattle.std.proofs.Common.{◌≡◌, true, Option, Some, None, refl}
 use Rattle.rw_schema.specs.declared.atom.Atom.{Atom}
-use Rattle.rw_schema.specs.Atoms.{is_same_atom}
 use Rattle.rw_schema.proofs.SameAtoms.{one_atom, same_as_itself}
 use Rattle.rw_map.specs.HomFaults.{goes_to}
 
