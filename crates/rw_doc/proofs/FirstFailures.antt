@@ -101,3 +101,8 @@ equation_refused C rows equation name is = rw (failure_told C rows, is) refl
 pub equations_hold : (C : Signature) (rows : RowLists) → equation_fault C rows ≡ None
     → spec.with_equations C rows ≡ Ok (record { signature = C; rows = rows })
 equations_hold C rows none = rw (failure_told C rows, none) refl
+
+-- where an equation fails, so does the document's reading of the equations
+pub failure_read : (C : Signature) (rows : RowLists) (fault : TableFault) → equation_fault C rows ≡ Some fault
+    → (given : DocFault) × (spec.with_equations C rows ≡ Err given)
+failure_read C rows fault is = (told fault, rw (failure_told C rows, is) refl)

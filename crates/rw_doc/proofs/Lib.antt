@@ -1,6 +1,7 @@
 pub mod Chains
 pub mod Checked
 pub mod EmptyInstances
+pub mod Endings
 pub mod Faultless
 pub mod FirstEntries
 pub mod FirstFailures

@@ -21,6 +21,7 @@ use Rattle.rw_doc.specs.Chain.{and_then, all_some, some_or, checked}
 use Rattle.rw_doc.specs.Gives.{Gives}
 use Rattle.rw_doc.specs.Instances.{rows_of}
 use Rattle.rw_doc.specs.Json.{is_null, atom_of}
+use Rattle.rw_doc.specs.Limits.{most_parts}
 use Rattle.rw_doc.specs.Pieces.{fault_in}
 use Rattle.rw_doc.specs.declared.piece.Piece.{Piece}
 use Rattle.rw_doc.proofs.Chains.{chain, checked_then}
@@ -132,11 +133,11 @@ form_read C piece form cells rows result long images so are built =
 -- ---- the size
 
 -- where no number of parts is too great, no object has too many names
-few_names : (parts : List ℕ) (object : ℕ) → spec.are_few parts ≡ true → length (list_at (map (range_with_len 0) parts) object) ≤ 1000000
+few_names : (parts : List ℕ) (object : ℕ) → spec.are_few parts ≡ true → length (list_at (map (range_with_len 0) parts) object) ≤ most_parts
 few_names [] object few = omega arith
 few_names (count ∷ parts) zero few =
-    rw (length-range_with_len 0 count) (leb-true count 1000000 (and_parts (nat_le count 1000000) (spec.are_few parts) few).0)
-few_names (count ∷ parts) (suc object) few = few_names parts object (and_parts (nat_le count 1000000) (spec.are_few parts) few).1
+    rw (length-range_with_len 0 count) (leb-true count most_parts (and_parts (nat_le count most_parts) (spec.are_few parts) few).0)
+few_names (count ∷ parts) (suc object) few = few_names parts object (and_parts (nat_le count most_parts) (spec.are_few parts) few).1
 
 -- an instance over the signature, of the size that is read
 record IsRead (C : Signature) (table : Tabled) : Type 0 where

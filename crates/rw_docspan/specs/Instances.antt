@@ -17,6 +17,7 @@ use Rattle.rw_doc.specs.declared.fault.DocFault.{DocFault}
 use Rattle.rw_doc.specs.Chain.{and_then, all_some, some_or, checked}
 use Rattle.rw_doc.specs.Instances.{instance_keys, rows_of}
 use Rattle.rw_doc.specs.Json.{as_list, has_only, is_null, atom_of, is_short}
+use Rattle.rw_doc.specs.Limits.{most_parts}
 use Rattle.rw_doc.specs.declared.piece.Piece.{Piece}
 use Rattle.rw_doc.specs.Numbers.{as_numbers, as_number_lists}
 use Rattle.rw_doc.specs.Pieces.{fault_in}
@@ -62,7 +63,7 @@ has_lengths C form =
 
 -- no object has more than 1,000,000 parts
 abbrev pub are_few : List ℕ → Bool
-are_few parts = list_all (λ count. nat_le count 1000000) parts
+are_few parts = list_all (λ count. nat_le count most_parts) parts
 
 -- the atom that a value is, if it is one, is no text that is too long
 abbrev pub is_short_or_none : Option Atom → Bool
@@ -116,4 +117,4 @@ read_instance C piece value = and_then (some_or (fault_in piece 2) (form_of valu
 
 -- no object of the instance has more than 1,000,000 parts
 abbrev pub IsOfSize : Signature → Tabled → Type 0
-IsOfSize C table = (object : ℕ) → object < C.objects → length (list_at table.rows.names object) ≤ 1000000
+IsOfSize C table = (object : ℕ) → object < C.objects → length (list_at table.rows.names object) ≤ most_parts

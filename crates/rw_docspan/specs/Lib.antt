@@ -1,3 +1,4 @@
+pub mod Frames
 pub mod Instances
 pub mod Maps
 pub mod Spans

@@ -1,18 +1,21 @@
 -- The span and the cospan of a document, or their first faults.
-use Rattle.std.specs.Prelude.{◌≡◌, ℕ, codes, List, [], ◌∷◌, Option, None, option_and_then, option_map, Result, Ok, if◌then◌else◌}
+use Rattle.std.specs.Prelude.{◌≡◌, ℕ, codes, List, Result, Ok}
 use Rattle.serde_json.specs.Data.{Data}
-use Rattle.serde_json.specs.Find.{get}
 use Rattle.rw_schema.specs.declared.section.Section.TheVariants as sections
 use Rattle.rw_schema.specs.Signature.{Signature}
 use Rattle.rw_spec.specs.Tabled.{Tabled, instance_of_table}
 use Rattle.rw_map.specs.Homs.{IsHom}
 use Rattle.rw_doc.specs.declared.fault.DocFault.{DocFault}
 use Rattle.rw_doc.specs.Chain.{and_then, some_or}
-use Rattle.rw_doc.specs.Json.{has_only}
-use Rattle.rw_doc.specs.declared.piece.Piece.{Piece}
 use Rattle.rw_doc.specs.Pieces.{fault_in}
-use Rattle.rw_docspan.specs.Instances.{read_instance, IsOfSize}
+use Rattle.rw_docspan.specs.Frames.{FrameKeys, FrameMembers, ThreeLists, members_of, piece_of, read_three}
+use Rattle.rw_docspan.specs.Instances.{IsOfSize}
 use Rattle.rw_docspan.specs.Maps.{read_map}
+
+-- the two maps
+pub record TwoMaps : Type 0 where
+  pub first : List (List ℕ)
+  pub second : List (List ℕ)
 
 -- ---- spans
 
@@ -23,42 +26,30 @@ pub record SpanLists : Type 0 where
   pub to_left : List (List ℕ)
   pub to_right : List (List ℕ)
 
-abbrev pub span_keys : List (List ℕ)
-span_keys = codes "apex" ∷ codes "left" ∷ codes "right" ∷ codes "to_left" ∷ codes "to_right" ∷ []
+abbrev pub span_keys : FrameKeys
+span_keys = record { first = codes "apex"; second = codes "left"; third = codes "right"; first_map = codes "to_left"; second_map = codes "to_right" }
 
--- the members of a span
-pub record SpanMembers : Type 0 where
-  pub apex : Data
-  pub left : Data
-  pub right : Data
-  pub to_left : Data
-  pub to_right : Data
+-- the maps out of the apex
+abbrev pub read_span_maps : Signature → FrameMembers → ThreeLists → Result TwoMaps DocFault
+read_span_maps C members three =
+    and_then (read_map C (piece_of sections.Span 4) three.first three.second members.first_map) (λ to_left.
+    and_then (read_map C (piece_of sections.Span 5) three.first three.third members.second_map) (λ to_right.
+    Ok (record { first = to_left; second = to_right })))
 
-abbrev pub span_members_in : Data → Option SpanMembers
-span_members_in value = option_and_then (λ apex. option_and_then (λ left. option_and_then (λ right. option_and_then (λ to_left.
-    option_map (λ to_right. record { apex = apex; left = left; right = right; to_left = to_left; to_right = to_right })
-    (get (codes "to_right") value)) (get (codes "to_left") value)) (get (codes "right") value)) (get (codes "left") value)) (get (codes "apex") value)
+-- the span of three instances and two maps
+abbrev pub span_of : ThreeLists → TwoMaps → SpanLists
+span_of three maps = record { apex = three.first; left = three.second; right = three.third; to_left = maps.first; to_right = maps.second }
 
--- an object with no other keys
-abbrev pub span_members : Data → Option SpanMembers
-span_members value = if has_only span_keys value then span_members_in value else None
-
--- a piece of the span: 0 its keys, 1 apex, 2 left, 3 right, 4 the map to the left, 5 the map to the right
-abbrev pub span_piece : ℕ → Piece
-span_piece piece = record { section = sections.Span; first = piece; second = 0 }
-
--- the pieces behind the keys
-abbrev pub read_span_pieces : Signature → SpanMembers → Result SpanLists DocFault
-read_span_pieces C members =
-    and_then (read_instance C (span_piece 1) members.apex) (λ apex.
-    and_then (read_instance C (span_piece 2) members.left) (λ left.
-    and_then (read_instance C (span_piece 3) members.right) (λ right.
-    and_then (read_map C (span_piece 4) apex left members.to_left) (λ to_left.
-    and_then (read_map C (span_piece 5) apex right members.to_right) (λ to_right.
-    Ok (record { apex = apex; left = left; right = right; to_left = to_left; to_right = to_right }))))))
+abbrev pub read_span_pieces : Signature → FrameMembers → Result SpanLists DocFault
+read_span_pieces C members = and_then (read_three C sections.Span members) (λ three. and_then (read_span_maps C members three) (λ maps. Ok (span_of three maps)))
 
 abbrev pub read_span : Signature → Data → Result SpanLists DocFault
-read_span C value = and_then (some_or (fault_in (span_piece 0) 2) (span_members value)) (read_span_pieces C)
+read_span C value = and_then (some_or (fault_in (piece_of sections.Span 0) 2) (members_of span_keys value)) (read_span_pieces C)
+
+-- both maps are homomorphisms
+pub record AreSpanMaps (C : Signature) (three : ThreeLists) (maps : TwoMaps) : Type 0 where
+  pub to_left : IsHom C (instance_of_table three.first) (instance_of_table three.second) maps.first
+  pub to_right : IsHom C (instance_of_table three.first) (instance_of_table three.third) maps.second
 
 -- all of it is over the signature, both maps are homomorphisms, and the instances are of the size that is read
 pub record IsSpanOver (C : Signature) (span : SpanLists) : Type 0 where
@@ -79,42 +70,30 @@ pub record CospanLists : Type 0 where
   pub left_map : List (List ℕ)
   pub right_map : List (List ℕ)
 
-abbrev pub cospan_keys : List (List ℕ)
-cospan_keys = codes "base" ∷ codes "left" ∷ codes "left_map" ∷ codes "right" ∷ codes "right_map" ∷ []
+abbrev pub cospan_keys : FrameKeys
+cospan_keys = record { first = codes "left"; second = codes "right"; third = codes "base"; first_map = codes "left_map"; second_map = codes "right_map" }
 
--- the members of a cospan
-pub record CospanMembers : Type 0 where
-  pub left : Data
-  pub right : Data
-  pub base : Data
-  pub left_map : Data
-  pub right_map : Data
+-- the maps into the base
+abbrev pub read_cospan_maps : Signature → FrameMembers → ThreeLists → Result TwoMaps DocFault
+read_cospan_maps C members three =
+    and_then (read_map C (piece_of sections.Cospan 4) three.first three.third members.first_map) (λ left_map.
+    and_then (read_map C (piece_of sections.Cospan 5) three.second three.third members.second_map) (λ right_map.
+    Ok (record { first = left_map; second = right_map })))
 
-abbrev pub cospan_members_in : Data → Option CospanMembers
-cospan_members_in value = option_and_then (λ left. option_and_then (λ right. option_and_then (λ base. option_and_then (λ left_map.
-    option_map (λ right_map. record { left = left; right = right; base = base; left_map = left_map; right_map = right_map })
-    (get (codes "right_map") value)) (get (codes "left_map") value)) (get (codes "base") value)) (get (codes "right") value)) (get (codes "left") value)
+-- the cospan of three instances and two maps
+abbrev pub cospan_of : ThreeLists → TwoMaps → CospanLists
+cospan_of three maps = record { left = three.first; right = three.second; base = three.third; left_map = maps.first; right_map = maps.second }
 
--- an object with no other keys
-abbrev pub cospan_members : Data → Option CospanMembers
-cospan_members value = if has_only cospan_keys value then cospan_members_in value else None
-
--- a piece of the cospan: 0 its keys, 1 left, 2 right, 3 base, 4 the map from the left, 5 the map from the right
-abbrev pub cospan_piece : ℕ → Piece
-cospan_piece piece = record { section = sections.Cospan; first = piece; second = 0 }
-
--- the pieces behind the keys
-abbrev pub read_cospan_pieces : Signature → CospanMembers → Result CospanLists DocFault
-read_cospan_pieces C members =
-    and_then (read_instance C (cospan_piece 1) members.left) (λ left.
-    and_then (read_instance C (cospan_piece 2) members.right) (λ right.
-    and_then (read_instance C (cospan_piece 3) members.base) (λ base.
-    and_then (read_map C (cospan_piece 4) left base members.left_map) (λ left_map.
-    and_then (read_map C (cospan_piece 5) right base members.right_map) (λ right_map.
-    Ok (record { left = left; right = right; base = base; left_map = left_map; right_map = right_map }))))))
+abbrev pub read_cospan_pieces : Signature → FrameMembers → Result CospanLists DocFault
+read_cospan_pieces C members = and_then (read_three C sections.Cospan members) (λ three. and_then (read_cospan_maps C members three) (λ maps. Ok (cospan_of three maps)))
 
 abbrev pub read_cospan : Signature → Data → Result CospanLists DocFault
-read_cospan C value = and_then (some_or (fault_in (cospan_piece 0) 2) (cospan_members value)) (read_cospan_pieces C)
+read_cospan C value = and_then (some_or (fault_in (piece_of sections.Cospan 0) 2) (members_of cospan_keys value)) (read_cospan_pieces C)
+
+-- both maps are homomorphisms
+pub record AreCospanMaps (C : Signature) (three : ThreeLists) (maps : TwoMaps) : Type 0 where
+  pub left_map : IsHom C (instance_of_table three.first) (instance_of_table three.third) maps.first
+  pub right_map : IsHom C (instance_of_table three.second) (instance_of_table three.third) maps.second
 
 -- all of it is over the signature, and both maps are homomorphisms
 pub record IsCospanOver (C : Signature) (cospan : CospanLists) : Type 0 where

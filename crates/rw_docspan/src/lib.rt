@@ -4,6 +4,7 @@
 mod cells;
 mod cospan;
 mod forms;
+mod frame;
 mod images;
 mod instance;
 mod lengths;

@@ -8,13 +8,8 @@ ghost use Rattle.rw_docspan.specs.Instances as spec;
 ghost use Rattle.rw_docspan.specs.Views.{form_lists};
 
 use crate::forms::Form;
+use rw_doc::{LONGEST_TEXT, MOST_PARTS};
 use serde_json::Value;
-
-/// The greatest number of parts of an object.
-const MOST_PARTS: u32 = 1_000_000;
-
-/// The greatest number of bytes of a text.
-const LONGEST_TEXT: usize = 65_535;
 
 /// Whether no object has too many parts.
 fn are_few(parts: &[u32]) -> bool
