@@ -59,7 +59,7 @@ found_at f i [] fault is = cc
 found_at f i (x ∷ xs) fault is = found_cons f i x xs fault (f i x) refl is (found_at f (i + 1) xs fault)
 
 -- the test of a fault failed, and it is the fault
-failed_unless : {A : Type 0} (test : Bool) (fault found : A) → fault_unless test fault ≡ Some found → (test ≡ false) × (fault ≡ found)
+pub failed_unless : {A : Type 0} (test : Bool) (fault found : A) → fault_unless test fault ≡ Some found → (test ≡ false) × (fault ≡ found)
 failed_unless true fault found is = cc
 failed_unless false fault found is = let same : fault ≡ found = cc in (refl, same)
 

@@ -1,5 +1,5 @@
 -- Images that are read are a map of patterns.
-use Rattle.std.proofs.Common.{◌≡◌, ◌==◌, ℕ, true, Option, Some, None, option_map, Ok, List, length, refl, subst}
+use Rattle.std.proofs.Common.{◌≡◌, ◌==◌, ℕ, true, Option, Some, None, option_map, Result, Ok, Err, IfOk, List, length, refl, subst}
 use Rattle.std.proofs.lemmas.Bool.{eqb-true}
 use Rattle.serde_json.specs.Data.{Data}
 use Rattle.rw_schema.specs.Signature.{Signature}
@@ -7,7 +7,9 @@ use Rattle.rw_pattern.specs.declared.map_fault.MapFault.{MapFault}
 use Rattle.rw_pattern.specs.MapFaults.{map_fault}
 use Rattle.rw_pattern.specs.PatternLists.{PatternLists}
 use Rattle.rw_rule.specs.RuleFaults.{is_map}
+use Rattle.rw_doc.specs.declared.end.ReadDocEnd.{ReadDocEnd}
 use Rattle.rw_doc.specs.Chain.{some_or, unfaulted}
+use Rattle.rw_doc.specs.Gives.{Gives}
 use Rattle.rw_doc.proofs.Chains.{chain, checked_then}
 use Rattle.rw_doc.specs.declared.piece.Piece.{Piece}
 use Rattle.rw_docpattern.specs.Maps.{code_of, read_map}
@@ -36,3 +38,9 @@ map_read C piece from to value =
     chain P (some_or (fault_in piece 2) (as_number_lists value)) _
     (λ images there. checked_then P (fault_in piece 2) (length images == C.objects) _
     (λ long. map_unfaulted C piece from to images (eqb-true (length images) C.objects long) (map_fault C from to images) refl))
+
+-- so they are where they are read
+pub long_read : (C : Signature) (piece : Piece) (from to : PatternLists) (value : Data) (result : Result (List (List ℕ)) ReadDocEnd)
+    → Gives (λ images. images) result (read_map C piece from to value) → IfOk result (λ images. length images ≡ C.objects)
+long_read C piece from to value (Ok images) gives = (map_read C piece from to value images gives).long
+long_read C piece from to value (Err end) gives = tt

@@ -3,6 +3,7 @@
 
 mod build;
 mod heads;
+mod laws;
 mod maps;
 mod members;
 mod pieces;
@@ -10,5 +11,6 @@ mod rules;
 mod sides;
 
 pub use build::{build_rules, not_built};
+pub use laws::rules_tell_first;
 pub use pieces::RuleRead;
 pub use rules::read_rules;

@@ -1,14 +1,16 @@
 -- The table of a document that is read is over the schema.
-use Rattle.std.proofs.Common.{◌≡◌, Bool, false, Option, Some, None, Ok, codes, refl}
+use Rattle.std.proofs.Common.{◌≡◌, Bool, false, Option, Some, None, Result, Ok, Err, IfOk, codes, refl}
 use Rattle.serde_json.specs.Data.{Data}
 use Rattle.serde_json.specs.Find.{get}
 use Rattle.rw_schema.specs.declared.section.Section.TheVariants.{Instance}
 use Rattle.rw_schema.specs.RowLists.{RowLists}
 use Rattle.rw_schema.specs.Signature.{Signature}
 use Rattle.rw_spec.specs.Tabled.{Tabled}
+use Rattle.rw_doc.specs.declared.end.ReadDocEnd.{ReadDocEnd}
 use Rattle.rw_doc.specs.declared.fault.DocFault.{DocFault}
 use Rattle.rw_doc.specs.Chain.{some_or, unfaulted}
 use Rattle.rw_doc.specs.Faults.{fault_of}
+use Rattle.rw_doc.specs.Gives.{Gives}
 use Rattle.rw_doc.specs.Instances.{empty_instance, first_failure, instance_keys, read_cells, read_instance, read_parts, read_rows, rows_of}
 use Rattle.rw_doc.specs.Json.{has_only}
 use Rattle.rw_doc.proofs.Chains.{chain, checked_then}
@@ -40,3 +42,8 @@ instance_over C blanks value =
 pub any_instance_over : (C : Signature) (value : Option Data) (table : Tabled) → instance_or_none C value ≡ Ok table → IsTableOver C table
 any_instance_over C None table is = let same : empty_instance C ≡ table = cc in rw (← same) refl
 any_instance_over C (Some value) table is = instance_over C false value table is
+
+-- so is what a reading answers
+pub result_over : (C : Signature) (value : Option Data) (result : Result Tabled ReadDocEnd) → Gives (λ table. table) result (instance_or_none C value) → IfOk result (IsTableOver C)
+result_over C value (Ok table) gives = any_instance_over C value table gives
+result_over C value (Err end) gives = tt

@@ -22,5 +22,5 @@ returns-clause-known g c =
       parts = rule_over C head body c.in_ok-body.ensures.over c.in_ok-head.ensures.long;
       few = c.in_ok-body.ensures.over.few;
       sound = rule_sound c.args.schema.now (entries c.args.ops.now) c.args.place (members_of_rule c.args.members.now) head body c.in_ok-body.ensures.gives
-          (none_is (value_missing C (rule_with head body)) _);
+          (none_is (value_missing C (rule_with head body)) (rw c.parts_of-parts.ensures at (sym c.has_values.ensures ∙ c.if-not-has_values.false)));
     })
