@@ -100,9 +100,18 @@ square_found C from to images fault is =
     subst (λ (place : ℕ). square_fault from to images place outer.item ≡ Some fault) (zero-add arrow) outer.is in
     let f : ℕ → ℕ → Option MapFault = λ part value. fault_unless (commutes_at to images arrow outer.item part value) (NotNatural (record { 0 = arrow }) part) in
     let inner = found_at f 0 (list_at from.rows arrow) fault here in
-    let failed = failed_unless (commutes_at to images arrow outer.item (0 + inner.place) inner.item) (NotNatural (record { 0 = arrow }) (0 + inner.place)) fault inner.is in
-    (ap code_of (sym failed.1), (arrow, outer.item, inner.place, inner.item, outer.there, inner.there,
-    subst (λ (part : ℕ). commutes_at to images arrow outer.item part inner.item ≡ false) (zero-add inner.place) failed.0))
+    let failed = failed_unless (commutes_at to images arrow outer.item (0 + inner.place) inner.item) (NotNatural (record { 0 = arrow }) (0 + inner.place)) fault inner.is in (
+      ap code_of (sym failed.1),
+      (
+        arrow,
+        outer.item,
+        inner.place,
+        inner.item,
+        outer.there,
+        inner.there,
+        subst (λ (part : ℕ). commutes_at to images arrow outer.item part inner.item ≡ false) (zero-add inner.place) failed.0,
+      ),
+    )
 
 -- the map commutes everywhere where no square has a fault
 square_passes : (C : Signature) (from to : PatternLists) (images : List (List ℕ)) → first_in (square_fault from to images) 0 C.arrows ≡ None → BreaksSquare C from to images → ⊥

@@ -53,7 +53,7 @@ limits_fail : (C : Signature) (form : PatternForm) → is_form_within C form ≡
 limits_fail C form fails =
     let within : WrittenEntry → Bool = λ entry. is_within_limits entry.term in
     elim (one_of_three (has_few_parts (bare_lists C form)) (nat_le (length form.entries) 256) (list_all within form.entries) fails) [
-      inl many ↦ inl many
+      | inl many ↦ inl many
       | inr rest ↦ elim rest [ inl long ↦ inr (inl (leb-false (length form.entries) 256 long)) | inr deep ↦ inr (inr (any_fails within form.entries deep)) ]
     ]
 
@@ -74,7 +74,7 @@ limits_pass C form passes past =
     let within : WrittenEntry → Bool = λ entry. is_within_limits entry.term in
     let parts = all_three (has_few_parts (bare_lists C form)) (nat_le (length form.entries) 256) (list_all within form.entries) passes in
     elim past [
-      inl many ↦ never_both (has_few_parts (bare_lists C form)) parts.0 many
+      | inl many ↦ never_both (has_few_parts (bare_lists C form)) parts.0 many
       | inr rest ↦ elim rest [ inl long ↦ (let few : length form.entries ≤ 256 = leb-true (length form.entries) 256 parts.1 in omega arith) | inr deep ↦ none_fails within form.entries parts.2 deep ]
     ]
 
@@ -84,7 +84,7 @@ parts_fail : (schema : Presentation) (form : PatternForm) (entries : List Entry)
 parts_fail schema form entries named fails =
     let lists = bare_lists (signature_of schema) form in
     elim (one_of_two (are_in_range (signature_of schema) lists) (list_all (is_on_part lists) entries) fails) [
-      inl beyond ↦ inl beyond
+      | inl beyond ↦ inl beyond
       | inr off ↦ inr (any_with (entry_named schema.attributes) (λ entry. is_on_part lists entry ≡ false) form.entries entries named (any_fails (is_on_part lists) entries off))
     ]
 
@@ -95,7 +95,7 @@ parts_pass schema form entries named passes other =
     let lists = bare_lists (signature_of schema) form in
     let parts = all_two (are_in_range (signature_of schema) lists) (list_all (is_on_part lists) entries) passes in
     elim other [
-      inl beyond ↦ never_both (are_in_range (signature_of schema) lists) parts.0 beyond
+      | inl beyond ↦ never_both (are_in_range (signature_of schema) lists) parts.0 beyond
       | inr off ↦ none_fails (is_on_part lists) entries parts.1 (any_without (entry_named schema.attributes) (λ entry. is_on_part lists entry ≡ false) form.entries entries named off)
     ]
 
@@ -163,7 +163,7 @@ form_tells schema piece None Others last from later =
 form_tells schema piece (Some form) Others last from later =
     let C : Signature = signature_of schema in
     let Rest : ℕ → Type 0 = row 4 (IsPastLimits C form) (row 6 (HasOtherName schema.attributes form) (row 8 (HasOtherPart schema form)
-        (row 9 (HasOtherAtom schema form) (row 10 (BreaksEquation C form) Others)))) in
+    (row 9 (HasOtherAtom schema form) (row 10 (BreaksEquation C form) Others)))) in
     past piece 2 (Some form ≡ None) (row 2 (HasOtherLengths C form) Rest) _ (λ none. cc)
     (tells_checked_then piece 2 4 (HasOtherLengths C form) Rest (has_shape C (bare_lists C form)) (Ok form) (λ form. and_then (read_entries schema piece form) (last form))
     (omega arith) (from_form schema (Some form) Others from) (λ fails. fails) (never_both (has_shape C (bare_lists C form)))
@@ -293,7 +293,7 @@ from_sets Condition other less (inr has) = has
 sets_fail : (C : Signature) (ops : List OpEntry) (left : PatternRead) (sets : List SetCell) → are_sets C ops left sets ≡ false
     → Any (λ set. fits_left C ops left set ≡ false) sets ⊎ (set_again sets ≢ None)
 sets_fail C ops left sets fails = elim (one_of_two (list_all (fits_left C ops left) sets) (is_none (set_again sets)) fails) [
-  inl other ↦ inl (any_fails (fits_left C ops left) sets other)
+  | inl other ↦ inl (any_fails (fits_left C ops left) sets other)
   | inr again ↦ inr (some_there (set_again sets) again)
 ]
 

@@ -159,7 +159,7 @@ module _ {A : Type 0} (section : Section) (f : List A → Data → Result A DocF
       → HasNoneIn (ItemHas Has (done ++ item ∷ rest) (length done)) → (place : ℕ) → place < length (done ++ item ∷ []) → HasNoneIn (ItemHas Has ((done ++ item ∷ []) ++ rest) place)
   clear_more done item rest clear none place within =
       subst (λ (all : List Data). HasNoneIn (ItemHas Has all place)) (sym (append_assoc done (item ∷ []) rest)) (elim (cases_lt place (length done)) [
-        inl less ↦ clear place less
+        | inl less ↦ clear place less
         | inr not_less ↦ (let same : length done ≡ place = omega (arith, within, length-append done (item ∷ [])) in
             subst (λ (place : ℕ). HasNoneIn (ItemHas Has (done ++ item ∷ rest) place)) same none)
       ])
@@ -169,7 +169,7 @@ module _ {A : Type 0} (section : Section) (f : List A → Data → Result A DocF
       → ((place : ℕ) → place < length done → HasNoneIn (ItemHas Has (done ++ rest) place))
       → Tells (HasNoneAmong (ItemHas Has (done ++ rest))) (IsFaultOfItems section (ItemHas Has (done ++ rest))) (each_after f before rest)
   rest_tells done before [] read clear = λ place piece code has. elim (cases_lt place (length done)) [
-    inl less ↦ clear place less piece code has
+    | inl less ↦ clear place less piece code has
     | inr not_less ↦ (let past : length (done ++ []) ≤ place = rw append-nil (omega arith) in
         of_nothing (slice_get (done ++ []) place) (λ item. Has (take place (done ++ [])) item piece code) (item_past (done ++ []) place past) has)
   ]
@@ -205,7 +205,7 @@ module _ {A : Type 0} (section : Section) (most : ℕ) (f : List A → Data → 
   few_tell : (list : List Data) (few : Bool) → nat_le (length list) most ≡ few
       → TellsList section (Own (Some list)) (ItemHas Has list) (and_then (checked (fault_of 4 section) few (Ok list)) (each_after f []))
   few_tell list true is = behind_own section (Own (Some list)) (ItemHas Has list) (each_after f [] list) (λ code has. elim has [
-    inl none ↦ (let never : Some list ≡ None = none.1 in cc)
+    | inl none ↦ (let never : Some list ≡ None = none.1 in cc)
     | inr rest ↦ elim rest [ inl many ↦ (let more : most < length list = many.1 in let few : length list ≤ most = leb-true (length list) most is in omega arith) | inr never ↦ never ]
   ]) (items list)
   few_tell list false is =
@@ -221,7 +221,7 @@ module _ {A : Type 0} (section : Section) (most : ℕ) (f : List A → Data → 
   -- the list, where it may be absent
   pub any_list_tells : (value : Option Data) → TellsList section (ListHas most value) (ItemHas Has (items_written value)) (and_then (read_list_or_none section most value) (each_after f []))
   any_list_tells None = behind_own section (ListHas most None) (ItemHas Has []) (each_after f [] []) (λ code has. elim has [
-    inl never ↦ never.1
+    | inl never ↦ never.1
     | inr rest ↦ elim rest [ inl never ↦ never.1 | inr never ↦ never ]
   ]) (items [])
   any_list_tells (Some value) = list_tells (as_list value)

@@ -75,7 +75,7 @@ any_source f P Q [] ys so given any = let none : [] ≡ ys = cc in absurd (any_n
 any_source f P Q (x ∷ xs) ys so given any =
     let parts = given_parts f x xs ys (f x) (all_some f xs) refl refl given in
     elim (any_of Q parts.first parts.rest (subst (λ list. Any Q list) (sym parts.same) any)) [
-      inl here ↦ any_here P x xs (so x parts.first parts.is_first here)
+      | inl here ↦ any_here P x xs (so x parts.first parts.is_first here)
       | inr later ↦ any_later P x xs (any_source f P Q xs parts.rest so parts.are_rest later)
     ]
 
@@ -86,7 +86,7 @@ any_given f P Q [] ys so given any = absurd (any_none P any)
 any_given f P Q (x ∷ xs) ys so given any =
     let parts = given_parts f x xs ys (f x) (all_some f xs) refl refl given in
     subst (λ list. Any Q list) parts.same (elim (any_of P x xs any) [
-      inl here ↦ any_here Q parts.first parts.rest (so x parts.first parts.is_first here)
+      | inl here ↦ any_here Q parts.first parts.rest (so x parts.first parts.is_first here)
       | inr later ↦ any_later Q parts.first parts.rest (any_given f P Q xs parts.rest so parts.are_rest later)
     ])
 

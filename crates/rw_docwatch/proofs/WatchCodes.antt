@@ -162,11 +162,11 @@ behind_tells schema rules done before item read =
     subst (λ (place : ℕ). TellsFirstPiece sections.Watches place (WatchHas schema IsTaken item) (read_watch_where schema (rules ++ map name_of before) (length before) item)) long
     (taken_tells schema (rules ++ map name_of before) IsTaken
     (λ name met. elim (in_one (list_any (bytes_eq name) rules) (list_any (bytes_eq name) (map name_of before)) (sym (list_any-append (bytes_eq name) rules (map name_of before)) ∙ met)) [
-      inl of_rule ↦ inl of_rule
+      | inl of_rule ↦ inl of_rule
       | inr of_watch ↦ inr (was_written name_of (read_watch schema rules) named done before name read of_watch)
     ])
     (λ name known. list_any-append (bytes_eq name) rules (map name_of before) ∙ in_both (list_any (bytes_eq name) rules) (list_any (bytes_eq name) (map name_of before)) (elim known [
-      inl of_rule ↦ inl of_rule
+      | inl of_rule ↦ inl of_rule
       | inr written ↦ inr (is_read name_of (read_watch schema rules) named done before name read written)
     ])) (length before) item)
 
