@@ -36,7 +36,7 @@ use Rattle.rw_doc.proofs.Written.{written_at, written_is, no_other_form, nothing
 -- ---- lists of a length
 
 -- a test of equal lengths that fails
-other_length : (count most : ℕ) → (count == most) ≡ false → count ≢ most
+pub other_length : (count most : ℕ) → (count == most) ≡ false → count ≢ most
 other_length count most fails same = let passes : (count == most) ≡ true = eq-eqb count most same in cc
 
 -- a list of a length that is asked for tells whether it is one
@@ -196,7 +196,7 @@ of_attribute C attribute atom = by_ends (slice_get C.attributes attribute)
     by_ends (Some ends) passes = (ends, refl, passes)
 
 -- a blank is no atom
-no_atom : (value : Data) → is_null value ≡ true → atom_of value ≡ None
+pub no_atom : (value : Data) → is_null value ≡ true → atom_of value ≡ None
 no_atom json.null is = refl
 no_atom (json.boolean truth) is = cc
 no_atom (json.number number) is = cc
@@ -205,7 +205,7 @@ no_atom (json.array items) is = cc
 no_atom (json.object entries) is = cc
 
 -- a text is an atom
-text_atom : (value : Data) (text : List ℕ) → as_str value ≡ Some text → (is_null value ≡ false) × (atom_of value ≡ Some (atoms.Text text))
+pub text_atom : (value : Data) (text : List ℕ) → as_str value ≡ Some text → (is_null value ≡ false) × (atom_of value ≡ Some (atoms.Text text))
 text_atom json.null text is = cc
 text_atom (json.boolean truth) text is = cc
 text_atom (json.number number) text is = cc
@@ -219,7 +219,7 @@ short_number None atom is = absurd (let never : ⊥ = cc in never)
 short_number (Some integer) atom is = subst (λ atom. is_short atom ≡ true) (same_Some (atoms.Int integer) atom is) refl
 
 -- an atom that is too long is a text
-long_atom : (value : Data) (atom : Atom) → atom_of value ≡ Some atom → is_short atom ≡ false → (text : List ℕ) × (as_str value ≡ Some text) × (longest_text < length text)
+pub long_atom : (value : Data) (atom : Atom) → atom_of value ≡ Some atom → is_short atom ≡ false → (text : List ℕ) × (as_str value ≡ Some text) × (longest_text < length text)
 long_atom json.null atom is long = absurd (let never : ⊥ = cc in never)
 long_atom (json.boolean truth) atom is long =
     let same : atoms.Bool truth ≡ atom = same_Some (atoms.Bool truth) atom is in

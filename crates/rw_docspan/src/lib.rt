@@ -7,10 +7,12 @@ mod forms;
 mod frame;
 mod images;
 mod instance;
+mod laws;
 mod lengths;
 mod limits;
 mod maps;
 mod span;
 
 pub use cospan::{Cospan, read_cospan};
+pub use laws::instances_tell_least;
 pub use span::{Span, read_span};
