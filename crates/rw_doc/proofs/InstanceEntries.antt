@@ -371,7 +371,7 @@ cells_tell C blanks parts value =
 -- ---- equations
 
 -- a number of a row of numbers from first on
-range_at : (first count place x : ℕ) → slice_get (range_with_len first count) place ≡ Some x → (x ≡ first + place) × (place < count)
+pub range_at : (first count place x : ℕ) → slice_get (range_with_len first count) place ≡ Some x → (x ≡ first + place) × (place < count)
 range_at first zero place x found = cc
 range_at first (suc count) zero x found = let same : first ≡ x = same_Some first x found in (omega arith, omega arith)
 range_at first (suc count) (suc place) x found =

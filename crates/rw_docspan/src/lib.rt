@@ -14,5 +14,5 @@ mod maps;
 mod span;
 
 pub use cospan::{Cospan, read_cospan};
-pub use laws::instances_tell_least;
+pub use laws::{cospan_tells_first, instances_tell_least, maps_tell_least, span_tells_first};
 pub use span::{Span, read_span};
