@@ -1,1 +1,5 @@
+pub mod Failing
+pub mod FramesInOrder
+pub mod MapEntries
+pub mod PieceEntries
 pub mod SoundForms

@@ -31,14 +31,15 @@ use Rattle.rw_docspan.specs.Instances as spec
 use Rattle.rw_docspan.specs.Instances.{InstanceForm, IsOfSize}
 
 -- the lengths that the signature asks for
-record HasLengths (C : Signature) (form : InstanceForm) : Type 0 where
-  parts : length form.parts ≡ C.objects
-  rows : length form.rows ≡ length C.arrows
-  cells : length form.cells ≡ length C.attributes
-  row_lengths : all_in (spec.has_row_length form.parts form.rows) 0 C.arrows ≡ true
-  cell_lengths : all_in (spec.has_cell_length form.parts form.cells) 0 C.attributes ≡ true
+pub record HasLengths (C : Signature) (form : InstanceForm) : Type 0 where
+  pub parts : length form.parts ≡ C.objects
+  pub rows : length form.rows ≡ length C.arrows
+  pub cells : length form.cells ≡ length C.attributes
+  pub row_lengths : all_in (spec.has_row_length form.parts form.rows) 0 C.arrows ≡ true
+  pub cell_lengths : all_in (spec.has_cell_length form.parts form.cells) 0 C.attributes ≡ true
 
-lengths_known : (C : Signature) (form : InstanceForm) → spec.has_lengths C form ≡ true → HasLengths C form
+-- they are what the test of the lengths says
+pub lengths_known : (C : Signature) (form : InstanceForm) → spec.has_lengths C form ≡ true → HasLengths C form
 lengths_known C form long = grind arith
 
 -- ---- cells
@@ -85,7 +86,7 @@ cell_lists_long C lists cells so =
     some_long (λ list. list) read cells so ∙ length_map_in (spec.cells_at lists) 0 C.attributes
 
 -- the cells of an attribute are what is read of its values
-cells_at : (C : Signature) (lists : List (List Data)) (cells : List (List (Option Atom))) → spec.cells_of C lists ≡ Some cells
+pub cells_at : (C : Signature) (lists : List (List Data)) (cells : List (List (Option Atom))) → spec.cells_of C lists ≡ Some cells
     → (c : ℕ) (ends : AttrEnds) → slice_get C.attributes c ≡ Some ends → all_some (spec.cell_of ends.kind) (list_at lists c) ≡ Some (list_at cells c)
 cells_at C lists cells so c ends there =
     let f = spec.cells_at lists in
