@@ -1,5 +1,5 @@
 -- Tests that fail, and where.
-use Rattle.std.proofs.Common.{◌≡◌, ◌≢◌, ◌==◌, ◌+◌, ◌&&◌, ℕ, zero, suc, Bool, true, false, inl, inr, Option, Some, None, List, [], ◌∷◌, slice_get, get_or, option_and_then, option_map, refl, sym, ap, subst, add-zero, arith}
+use Rattle.std.proofs.Common.{◌≡◌, ◌==◌, ◌+◌, ℕ, zero, suc, Bool, true, false, inl, inr, Option, Some, None, List, [], ◌∷◌, slice_get, option_and_then, option_map, refl, sym, ap, add-zero, arith}
 use Rattle.std.specs.List.{list_all, list_any}
 use Rattle.std.proofs.lemmas.Bool.{cases_Bool, eq-eqb, eqb-true}
 use Rattle.std.proofs.lemmas.Option.{slice_get_within, get_or_from_slice_get, same_Some}
@@ -11,20 +11,20 @@ use Rattle.rw_doc.proofs.Listed.{none_at}
 pub one_fails : {A : Type 0} (test : A → Bool) (xs : List A) → list_all test xs ≡ false → (place : ℕ) × (x : A) × (slice_get xs place ≡ Some x) × (test x ≡ false)
 one_fails test [] fails = let never : ⊥ = cc in absurd never
 one_fails test (x ∷ xs) fails = elim (cases_Bool (test x)) [
-    | inl passes ↦ let later = one_fails test xs (rw passes at fails) in (suc later.0, later.1, later.2, later.3)
-    | inr here ↦ (0, x, refl, here)
-  ]
+  | inl passes ↦ let later = one_fails test xs (rw passes at fails) in (suc later.0, later.1, later.2, later.3)
+  | inr here ↦ (0, x, refl, here)
+]
 
 -- the same, with places
 pub one_fails_in : {A : Type 0} (test : ℕ → A → Bool) (i : ℕ) (xs : List A) → all_in test i xs ≡ false → (place : ℕ) × (x : A) × (slice_get xs place ≡ Some x) × (test (i + place) x ≡ false)
 one_fails_in test i [] fails = let never : ⊥ = cc in absurd never
 one_fails_in test i (x ∷ xs) fails = elim (cases_Bool (test i x)) [
-    | inl passes ↦
-        let later = one_fails_in test (i + 1) xs (rw passes at fails) in
-        let same : (i + 1) + later.0 ≡ i + suc later.0 = omega arith in
-        (suc later.0, later.1, later.2, rw same at later.3)
-    | inr here ↦ (0, x, refl, rw add-zero here)
-  ]
+  | inl passes ↦
+      let later = one_fails_in test (i + 1) xs (rw passes at fails) in
+      let same : (i + 1) + later.0 ≡ i + suc later.0 = omega arith in
+      (suc later.0, later.1, later.2, rw same at later.3)
+  | inr here ↦ (0, x, refl, rw add-zero here)
+]
 
 -- an item that gives nothing stands where not all give something
 pub one_gives_nothing : {A B : Type 0} (f : A → Option B) (xs : List A) → all_some f xs ≡ None → (place : ℕ) × (x : A) × (slice_get xs place ≡ Some x) × (f x ≡ None)
@@ -56,18 +56,18 @@ from_place f i (x ∷ xs) (suc place) y found =
 pub number_there : (numbers : List ℕ) (n : ℕ) → list_any (λ other. other == n) numbers ≡ true → (place : ℕ) × (slice_get numbers place ≡ Some n)
 number_there [] n any = let never : ⊥ = cc in absurd never
 number_there (m ∷ numbers) n any = elim (cases_Bool (m == n)) [
-    | inl same ↦ (0, ap (λ k. Some k) (eqb-true m n same))
-    | inr other ↦ let later = number_there numbers n (rw other at any) in (suc later.0, later.1)
-  ]
+  | inl same ↦ (0, ap (λ k. Some k) (eqb-true m n same))
+  | inr other ↦ let later = number_there numbers n (rw other at any) in (suc later.0, later.1)
+]
 
 -- a number that is there is found
 pub number_found : (numbers : List ℕ) (n place : ℕ) → slice_get numbers place ≡ Some n → list_any (λ other. other == n) numbers ≡ true
 number_found [] n place found = let never : ⊥ = cc in absurd never
 number_found (m ∷ numbers) n zero found = rw (eq-eqb m n (same_Some m n found)) refl
 number_found (m ∷ numbers) n (suc place) found = elim (cases_Bool (m == n)) [
-    | inl same ↦ rw same refl
-    | inr other ↦ rw other (number_found numbers n place found)
-  ]
+  | inl same ↦ rw same refl
+  | inr other ↦ rw other (number_found numbers n place found)
+]
 
 -- the first fault in a list stands at a place
 pub fault_there : {X A : Type 0} (f : ℕ → X → Option A) (i : ℕ) (xs : List X) (fault : A) → first_in f i xs ≡ Some fault

@@ -1,5 +1,5 @@
 -- Spans and cospans tell the fault of their first piece that has one.
-use Rattle.std.proofs.Common.{◌≡◌, ◌∙◌, ◌≤◌, ◌⊎◌, inl, inr, ℕ, Bool, true, false, Option, Some, None, Result, Ok, Err, List, [], ◌∷◌, option_and_then, option_map, if◌then◌else◌, refl, sym, ap, subst, arith}
+use Rattle.std.proofs.Common.{◌≡◌, ◌⊎◌, inl, inr, ℕ, Bool, true, false, Option, Some, None, Result, Ok, Err, List, refl, subst, arith}
 use Rattle.serde_json.specs.Data.{Data}
 use Rattle.serde_json.specs.Find.{get}
 use Rattle.rw_schema.specs.declared.section.Section.{Section}
@@ -67,12 +67,14 @@ keys_or_members keys value = by_keys (has_only (all_keys keys) value) refl
     all_there : has_only (all_keys keys) value ≡ true → (LacksOneOf (all_keys keys) value → ⊥) → HasOtherKeys (all_keys keys) (all_keys keys) value → ⊥
     all_there is lack (inl other) = cc
     all_there is lack (inr lacks) = lack lacks
+
     by_members : has_only (all_keys keys) value ≡ true
         → ((members_in keys value ≡ None) × LacksOneOf (all_keys keys) value) ⊎ ((members_in keys value ≡ Some (members_at keys value)) × (LacksOneOf (all_keys keys) value → ⊥))
         → ((members_of keys value ≡ None) × HasOtherKeys (all_keys keys) (all_keys keys) value)
         ⊎ ((members_of keys value ≡ Some (members_at keys value)) × (HasOtherKeys (all_keys keys) (all_keys keys) value → ⊥))
     by_members is (inl lacks) = inl (rw is lacks.0, inr lacks.1)
     by_members is (inr all) = inr (rw is all.0, all_there is all.1)
+
     by_keys : (known : Bool) → has_only (all_keys keys) value ≡ known
         → ((members_of keys value ≡ None) × HasOtherKeys (all_keys keys) (all_keys keys) value)
         ⊎ ((members_of keys value ≡ Some (members_at keys value)) × (HasOtherKeys (all_keys keys) (all_keys keys) value → ⊥))
@@ -132,13 +134,13 @@ map_read C section keys piece from to key value three images has is fault fails 
 -- the pieces behind the keys tell the first fault
 pieces_tell : {A : Type 0} (C : Signature) (section : Section) (keys : FrameKeys) (from_first to_first from_second to_second : ThreeLists → Tabled) (h : ThreeLists → TwoMaps → A) (value : Data)
     → let members = members_at keys value in
-      TellsInOrder (or_place 1 (λ fault. read_instance C (piece_of section 1) members.first ≡ Err fault)
-        (or_place 2 (λ fault. read_instance C (piece_of section 2) members.second ≡ Err fault)
-        (or_place 3 (λ fault. read_instance C (piece_of section 3) members.third ≡ Err fault)
-        (or_place 4 (MapFault C section keys 4 from_first to_first keys.first_map value) (only_place 5 (MapFault C section keys 5 from_second to_second keys.second_map value))))))
-      (and_then (read_three C section members) (λ three.
-      and_then (and_then (read_map C (piece_of section 4) (from_first three) (to_first three) members.first_map) (λ first.
-      and_then (read_map C (piece_of section 5) (from_second three) (to_second three) members.second_map) (λ second. Ok (two_of first second)))) (λ maps. Ok (h three maps))))
+    TellsInOrder (or_place 1 (λ fault. read_instance C (piece_of section 1) members.first ≡ Err fault)
+    (or_place 2 (λ fault. read_instance C (piece_of section 2) members.second ≡ Err fault)
+    (or_place 3 (λ fault. read_instance C (piece_of section 3) members.third ≡ Err fault)
+    (or_place 4 (MapFault C section keys 4 from_first to_first keys.first_map value) (only_place 5 (MapFault C section keys 5 from_second to_second keys.second_map value))))))
+    (and_then (read_three C section members) (λ three.
+    and_then (and_then (read_map C (piece_of section 4) (from_first three) (to_first three) members.first_map) (λ first.
+    and_then (read_map C (piece_of section 5) (from_second three) (to_second three) members.second_map) (λ second. Ok (two_of first second)))) (λ maps. Ok (h three maps))))
 pieces_tell C section keys from_first to_first from_second to_second h value =
     let members = members_at keys value in
     let first = read_instance C (piece_of section 1) members.first in
@@ -171,18 +173,18 @@ pieces_tell C section keys from_first to_first from_second to_second h value =
 -- a frame tells the fault of its first piece that has one
 frame_tells : (A : Type 0) (C : Signature) (section : Section) (keys : FrameKeys) (from_first to_first from_second to_second : ThreeLists → Tabled) (h : ThreeLists → TwoMaps → A) (value : Data)
     → TellsInOrder (FrameHas C section keys from_first to_first from_second to_second value)
-      (and_then (some_or (fault_in (piece_of section 0) 2) (members_of keys value)) (λ members.
-      and_then (read_three C section members) (λ three.
-      and_then (and_then (read_map C (piece_of section 4) (from_first three) (to_first three) members.first_map) (λ first.
-      and_then (read_map C (piece_of section 5) (from_second three) (to_second three) members.second_map) (λ second. Ok (two_of first second)))) (λ maps. Ok (h three maps)))))
+    (and_then (some_or (fault_in (piece_of section 0) 2) (members_of keys value)) (λ members.
+    and_then (read_three C section members) (λ three.
+    and_then (and_then (read_map C (piece_of section 4) (from_first three) (to_first three) members.first_map) (λ first.
+    and_then (read_map C (piece_of section 5) (from_second three) (to_second three) members.second_map) (λ second. Ok (two_of first second)))) (λ maps. Ok (h three maps)))))
 frame_tells A C section keys from_first to_first from_second to_second h value =
     let fault = fault_in (piece_of section 0) 2 in
     let Keys = λ (given : DocFault). (given ≡ fault) × HasOtherKeys (all_keys keys) (all_keys keys) value in
     let members = members_at keys value in
     let Others = or_place 1 (λ fault. read_instance C (piece_of section 1) members.first ≡ Err fault)
-        (or_place 2 (λ fault. read_instance C (piece_of section 2) members.second ≡ Err fault)
-        (or_place 3 (λ fault. read_instance C (piece_of section 3) members.third ≡ Err fault)
-        (or_place 4 (MapFault C section keys 4 from_first to_first keys.first_map value) (only_place 5 (MapFault C section keys 5 from_second to_second keys.second_map value))))) in
+    (or_place 2 (λ fault. read_instance C (piece_of section 2) members.second ≡ Err fault)
+    (or_place 3 (λ fault. read_instance C (piece_of section 3) members.third ≡ Err fault)
+    (or_place 4 (MapFault C section keys 4 from_first to_first keys.first_map value) (only_place 5 (MapFault C section keys 5 from_second to_second keys.second_map value))))) in
     elim (keys_or_members keys value) [
       | inl other ↦ rw other.0 (order_here A 0 Keys Others fault (λ place given has. omega arith) (refl, other.1))
       | inr there ↦ rw there.0 (order_other 0 Keys Others _ (λ given has. there.1 has.1) (pieces_tell C section keys from_first to_first from_second to_second h value))

@@ -1,19 +1,17 @@
 -- A map of a piece tells its least code.
-use Rattle.std.proofs.Common.{◌≡◌, ◌≢◌, ◌∙◌, ◌<◌, ◌≤◌, ◌+◌, ◌⊎◌, ◌&&◌, ◌==◌, inl, inr, ℕ, zero, suc, Bool, true, false, nat_lt, Option, Some, None, Result, Ok, Err, List, [], ◌∷◌, length, option_map, slice_get, refl, sym, ap, subst, zero-add, arith}
+use Rattle.std.proofs.Common.{◌≡◌, ◌≢◌, ◌∙◌, ◌<◌, ◌+◌, ◌&&◌, ◌==◌, ℕ, Bool, true, false, nat_lt, Option, Some, None, List, length, option_map, refl, sym, ap, subst, zero-add, arith}
 use Rattle.std.specs.List.{list_any, range_with_len}
-use Rattle.std.proofs.lemmas.Bool.{and_parts, cases_Bool, eqb-true, eq-eqb, lt-ltb}
+use Rattle.std.proofs.lemmas.Bool.{and_parts, eqb-true, lt-ltb}
 use Rattle.std.proofs.lemmas.Option.{same_Some}
 use Rattle.serde_json.specs.Data.{Data}
 use Rattle.rw_schema.specs.declared.atom.Atom.{Atom}
-use Rattle.rw_schema.specs.declared.signature.ArrowEnds.{ArrowEnds}
-use Rattle.rw_schema.specs.declared.signature.AttrEnds.{AttrEnds}
 use Rattle.rw_schema.specs.First.{first_in, fault_unless, or_else}
 use Rattle.rw_schema.specs.RowLists.{list_at}
 use Rattle.rw_schema.specs.Signature.{Signature}
 use Rattle.rw_schema.proofs.Firsts.{none_at, passed_unless}
 use Rattle.rw_spec.specs.Homomorphism.{map_of}
 use Rattle.rw_spec.specs.Instance.{Instance}
-use Rattle.rw_spec.specs.Tabled.{Tabled, instance_of_table}
+use Rattle.rw_spec.specs.Tabled.{instance_of_table}
 use Rattle.rw_map.specs.declared.fault.HomFault.{HomFault}
 use Rattle.rw_map.specs.declared.fault.HomFault.TheVariants as faults
 use Rattle.rw_map.specs.HomFaults as homs
@@ -21,11 +19,10 @@ use Rattle.rw_map.proofs.Atoms.{atom_kept, kept_from}
 use Rattle.rw_map.proofs.Objects.{object_none}
 use Rattle.rw_doc.specs.declared.fault.DocFault.{DocFault}
 use Rattle.rw_doc.specs.declared.piece.Piece.{Piece}
-use Rattle.rw_doc.specs.Chain.{and_then, some_or, checked, unfaulted}
-use Rattle.rw_doc.specs.Entries.{HasNone, IsLeastCode, no_code}
+use Rattle.rw_doc.specs.Chain.{unfaulted}
 use Rattle.rw_doc.specs.Numbers.{as_number_lists}
 use Rattle.rw_doc.specs.Pieces.{fault_in}
-use Rattle.rw_doc.proofs.FirstEntries.{TellsCode, IsBeyond, or_code, only_code, tells_alone, tells_checked, tells_some, tells_other, least_here}
+use Rattle.rw_doc.proofs.FirstEntries.{TellsCode, IsBeyond, or_code, only_code, tells_checked, tells_some, tells_other, least_here}
 use Rattle.rw_doc.proofs.InstanceEntries.{other_length, range_at}
 use Rattle.rw_doc.proofs.Written.{never_both}
 use Rattle.rw_docspan.specs.Maps as spec
@@ -78,7 +75,7 @@ shape_fails C X images long fault is =
     let test = fault_of_test (homs.has_images X images object) (faults.Shape (record { 0 = object })) fault found.3 in
     let there : nat_lt object (length images) ≡ true = lt-ltb object (length images) (subst (λ (n : ℕ). object < n) (sym long) within) in
     let other : (length (list_at images object) == length (X.names object)) ≡ false =
-        second_fails (nat_lt object (length images)) (length (list_at images object) == length (X.names object)) there test.0 in
+    second_fails (nat_lt object (length images)) (length (list_at images object) == length (X.names object)) there test.0 in
     (ap spec.code_of (sym test.1), (object, within, other_length (length (list_at images object)) (length (X.names object)) other))
 
 -- without one, no list has another length
@@ -101,10 +98,19 @@ images_fail C Y images fault is =
     let within : object < C.objects = (let at = range_at 0 C.objects found.0 object found.2 in let same = at.0 in let less = at.1 in omega arith) in
     let g = λ (position : ℕ) (image : ℕ). fault_unless (list_any (λ name. name == image) (Y.names object)) (faults.Range (record { 0 = object }) position) in
     let stray = fault_there g 0 (list_at images object) fault found.3 in
-    let test = fault_of_test (list_any (λ name. name == stray.1) (Y.names object)) (faults.Range (record { 0 = object }) (0 + stray.0)) fault stray.3 in
-    (ap spec.code_of (sym test.1), (object, stray.0, stray.1, within, stray.2, λ place there.
-        let passes : list_any (λ name. name == stray.1) (Y.names object) ≡ true = number_found (Y.names object) stray.1 place there in
-        let fails = test.0 in cc))
+    let test = fault_of_test (list_any (λ name. name == stray.1) (Y.names object)) (faults.Range (record { 0 = object }) (0 + stray.0)) fault stray.3 in (
+      ap spec.code_of (sym test.1),
+      (
+        object,
+        stray.0,
+        stray.1,
+        within,
+        stray.2,
+        λ place there.
+            let passes : list_any (λ name. name == stray.1) (Y.names object) ≡ true = number_found (Y.names object) stray.1 place there in
+            let fails = test.0 in cc,
+      ),
+    )
 
 -- without one, all are there
 images_hold : (C : Signature) (Y : Instance) (images : List (List ℕ)) → homs.image_fault C Y images ≡ None → StraysFrom C Y images → ⊥
@@ -129,9 +135,18 @@ arrows_fail C X Y images fault is =
     let ends = found.1 in
     let g = λ (position : ℕ) (x : ℕ). fault_unless (homs.commutes_at X Y f arrow ends x) (faults.NotNatural (record { 0 = arrow }) position) in
     let part = fault_there g 0 (X.names ends.source.0) fault (rw zero-add at found.3) in
-    let test = fault_of_test (homs.commutes_at X Y f arrow ends part.1) (faults.NotNatural (record { 0 = arrow }) (0 + part.0)) fault part.3 in
-    (ap spec.code_of (sym test.1), (arrow, ends, part.0, part.1, found.2, part.2,
-        other_length (f ends.target.0 (X.value arrow part.1)) (Y.value arrow (f ends.source.0 part.1)) test.0))
+    let test = fault_of_test (homs.commutes_at X Y f arrow ends part.1) (faults.NotNatural (record { 0 = arrow }) (0 + part.0)) fault part.3 in (
+      ap spec.code_of (sym test.1),
+      (
+        arrow,
+        ends,
+        part.0,
+        part.1,
+        found.2,
+        part.2,
+        other_length (f ends.target.0 (X.value arrow part.1)) (Y.value arrow (f ends.source.0 part.1)) test.0,
+      ),
+    )
 
 -- without one, it commutes at each
 arrows_hold : (C : Signature) (X Y : Instance) (images : List (List ℕ)) → first_in (homs.square_fault X Y (map_of X images)) 0 C.arrows ≡ None → IsNotNatural C X Y images → ⊥
@@ -150,8 +165,12 @@ arrows_hold C X Y images none other =
 -- a cell that is not kept has an atom, and its image has not the same
 not_kept : (cell image : Option Atom) → homs.goes_to cell image ≡ false → (atom : Atom) × (cell ≡ Some atom) × (image ≢ Some atom)
 not_kept None image fails = let never : ⊥ = cc in absurd never
-not_kept (Some atom) image fails = (atom, refl, λ same.
-    let kept : homs.goes_to (Some atom) image ≡ true = kept_from (Some atom) image (λ other is. same ∙ is) in cc)
+not_kept (Some atom) image fails = (
+  atom,
+  refl,
+  λ same.
+      let kept : homs.goes_to (Some atom) image ≡ true = kept_from (Some atom) image (λ other is. same ∙ is) in cc,
+)
 
 -- a fault of the atoms is a part whose atom is lost
 atoms_fail : (C : Signature) (X Y : Instance) (images : List (List ℕ)) (fault : HomFault) → first_in (homs.lost_cell X Y (map_of X images)) 0 C.attributes ≡ Some fault

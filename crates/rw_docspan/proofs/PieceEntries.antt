@@ -1,5 +1,5 @@
 -- An instance of a piece tells its least code.
-use Rattle.std.proofs.Common.{◌≡◌, ◌≢◌, ◌∙◌, ◌<◌, ◌≤◌, ◌+◌, ◌⊎◌, ◌&&◌, ◌==◌, inl, inr, ℕ, zero, suc, Bool, true, false, is_none, if◌then◌else◌, nat_le, nat_lt, Option, Some, None, Result, Ok, Err, List, [], ◌∷◌, length, option_and_then, slice_get, slice_index, refl, sym, ap, subst, zero-add, arith}
+use Rattle.std.proofs.Common.{◌≡◌, ◌∙◌, ◌<◌, ◌≤◌, ◌==◌, inl, inr, ℕ, Bool, true, false, is_none, if◌then◌else◌, nat_le, nat_lt, Option, Some, None, Result, Ok, Err, List, length, option_and_then, slice_get, slice_index, refl, sym, subst, zero-add, arith}
 use Rattle.std.specs.List.{list_all}
 use Rattle.std.proofs.lemmas.Bool.{and_parts, cases_Bool, eqb-true, leb-true, ltb-true}
 use Rattle.std.proofs.lemmas.Option.{same_Some}
@@ -7,8 +7,6 @@ use Rattle.serde_json.specs.Data.{Data}
 use Rattle.serde_json.specs.Find.{as_str}
 use Rattle.rw_schema.specs.declared.atom.Atom.{Atom}
 use Rattle.rw_schema.specs.declared.atom.Atom.TheVariants as atoms
-use Rattle.rw_schema.specs.declared.atom.Kind.{Kind}
-use Rattle.rw_schema.specs.declared.signature.ArrowEnds.{ArrowEnds}
 use Rattle.rw_schema.specs.declared.signature.AttrEnds.{AttrEnds}
 use Rattle.rw_schema.specs.Atoms.{is_of_kind}
 use Rattle.rw_schema.specs.First.{all_in, map_in}
@@ -22,11 +20,11 @@ use Rattle.rw_table.specs.declared.fault.TableFault.{TableFault}
 use Rattle.rw_table.specs.TableFaults.{equation_fault}
 use Rattle.rw_doc.specs.declared.fault.DocFault.{DocFault}
 use Rattle.rw_doc.specs.declared.piece.Piece.{Piece}
-use Rattle.rw_doc.specs.Chain.{and_then, all_some, some_or, checked}
-use Rattle.rw_doc.specs.Entries.{Tells, TellsLeast, HasNone, IsLeastCode, AreClear, IsFirstOfList, IsFirstOfLists, no_code}
+use Rattle.rw_doc.specs.Chain.{all_some, checked}
+use Rattle.rw_doc.specs.Entries.{TellsLeast, IsLeastCode, AreClear, IsFirstOfList, IsFirstOfLists, no_code}
 use Rattle.rw_doc.specs.InstanceEntries.{IsCellOf, EquationFailsAt}
 use Rattle.rw_doc.specs.Instances.{rows_of, with_equations}
-use Rattle.rw_doc.specs.Json.{is_null, atom_of, is_short}
+use Rattle.rw_doc.specs.Json.{is_null, atom_of}
 use Rattle.rw_doc.specs.Limits.{most_parts, longest_text}
 use Rattle.rw_doc.specs.Pieces.{fault_in}
 use Rattle.rw_doc.specs.Faults.{fault_at}
@@ -34,14 +32,14 @@ use Rattle.rw_schema.specs.declared.section.Section.TheVariants as sections
 use Rattle.rw_doc.proofs.Checked.{none_is}
 use Rattle.rw_doc.proofs.FirstEntries.{TellsCode, or_code, only_code, tells_alone, tells_checked, tells_some}
 use Rattle.rw_doc.proofs.FirstFailures.{failure_read, equations_hold}
-use Rattle.rw_doc.proofs.InstanceEntries.{failures_first, other_length, long_atom, text_atom, no_atom}
+use Rattle.rw_doc.proofs.InstanceEntries.{failures_first, other_length, long_atom, text_atom}
 use Rattle.rw_doc.proofs.Unnamed.{told, told_clear}
 use Rattle.rw_doc.proofs.Written.{never_both, many}
 use Rattle.rw_docspan.specs.Instances as spec
 use Rattle.rw_docspan.specs.Instances.{InstanceForm}
 use Rattle.rw_docspan.specs.PieceEntries.{IsFormWith, HasOtherLength, IsPastLimits, HasStrayImage, HasOtherCell, HasFailure, InstanceHas, InstancesTellLeast}
 use Rattle.rw_docspan.proofs.Failing.{one_fails, one_fails_in, one_gives_nothing, all_give, from_place}
-use Rattle.rw_docspan.proofs.SoundForms.{HasLengths, lengths_known, cells_at}
+use Rattle.rw_docspan.proofs.SoundForms.{lengths_known, cells_at}
 
 -- the code is in the fault of a piece
 pub told_in_piece : {A : Type 0} (piece : Piece) (Has : ℕ → Type 0) (reading : Result A DocFault) → TellsCode Has (fault_in piece) reading → TellsLeast piece Has reading
@@ -74,18 +72,18 @@ cell_length C form fails =
 -- where the test of the lengths fails, a list has another
 lengths_fail : (C : Signature) (form : InstanceForm) → spec.has_lengths C form ≡ false → HasOtherLength C form
 lengths_fail C form fails = elim (cases_Bool (length form.parts == C.objects)) [
-    | inr parts ↦ inl (other_length (length form.parts) C.objects parts)
-    | inl parts ↦ elim (cases_Bool (length form.rows == length C.arrows)) [
-        | inr rows ↦ inr (inl (other_length (length form.rows) (length C.arrows) rows))
-        | inl rows ↦ elim (cases_Bool (length form.cells == length C.attributes)) [
-            | inr cells ↦ inr (inr (inl (other_length (length form.cells) (length C.attributes) cells)))
-            | inl cells ↦ elim (cases_Bool (all_in (spec.has_row_length form.parts form.rows) 0 C.arrows)) [
-                | inr lists ↦ row_length C form lists
-                | inl lists ↦ cell_length C form (rw (parts, rows, cells, lists) at fails)
-              ]
-          ]
+  | inr parts ↦ inl (other_length (length form.parts) C.objects parts)
+  | inl parts ↦ elim (cases_Bool (length form.rows == length C.arrows)) [
+    | inr rows ↦ inr (inl (other_length (length form.rows) (length C.arrows) rows))
+    | inl rows ↦ elim (cases_Bool (length form.cells == length C.attributes)) [
+      | inr cells ↦ inr (inr (inl (other_length (length form.cells) (length C.attributes) cells)))
+      | inl cells ↦ elim (cases_Bool (all_in (spec.has_row_length form.parts form.rows) 0 C.arrows)) [
+        | inr lists ↦ row_length C form lists
+        | inl lists ↦ cell_length C form (rw (parts, rows, cells, lists) at fails)
       ]
+    ]
   ]
+]
 
 -- where it passes, none has
 lengths_pass : (C : Signature) (form : InstanceForm) → spec.has_lengths C form ≡ true → HasOtherLength C form → ⊥
@@ -109,15 +107,15 @@ long_value value (Some atom) is fails = long_atom value atom is fails
 -- where the test of the limits fails, one is passed
 limits_fail : (form : InstanceForm) → spec.is_in_limits form ≡ false → IsPastLimits form
 limits_fail form fails = elim (cases_Bool (spec.are_few form.parts)) [
-    | inr many_parts ↦
-        let one = one_fails (λ count. nat_le count most_parts) form.parts many_parts in
-        inl (one.0, one.1, one.2, many one.1 most_parts one.3)
-    | inl few ↦
-        let list = one_fails spec.are_short form.cells (rw few at fails) in
-        let one = one_fails (λ value. spec.is_short_or_none (atom_of value)) list.1 list.3 in
-        let text = long_value one.1 (atom_of one.1) refl one.3 in
-        inr (list.0, list.1, one.0, one.1, text.0, list.2, one.2, text.1, text.2)
-  ]
+  | inr many_parts ↦
+      let one = one_fails (λ count. nat_le count most_parts) form.parts many_parts in
+      inl (one.0, one.1, one.2, many one.1 most_parts one.3)
+  | inl few ↦
+      let list = one_fails spec.are_short form.cells (rw few at fails) in
+      let one = one_fails (λ value. spec.is_short_or_none (atom_of value)) list.1 list.3 in
+      let text = long_value one.1 (atom_of one.1) refl one.3 in
+      inr (list.0, list.1, one.0, one.1, text.0, list.2, one.2, text.1, text.2)
+]
 
 -- where it passes, none is
 limits_pass : (form : InstanceForm) → spec.is_in_limits form ≡ true → IsPastLimits form → ⊥
@@ -153,7 +151,7 @@ images_pass : (C : Signature) (form : InstanceForm) → all_in (spec.has_images 
 images_pass C form passes stray =
     let targets = slice_index form.parts stray.1.target.0 in
     let row : list_all (λ image. nat_lt image targets) (list_at form.rows stray.0) ≡ true =
-        rw zero-add at (all_in_at (spec.has_images form.parts form.rows) 0 C.arrows stray.0 stray.1 passes stray.4) in
+    rw zero-add at (all_in_at (spec.has_images form.parts form.rows) 0 C.arrows stray.0 stray.1 passes stray.4) in
     let one : nat_lt stray.3 targets ≡ true = list_all_at (λ image. nat_lt image targets) (list_at form.rows stray.0) stray.2 stray.3 row stray.5 in
     let less : stray.3 < targets = ltb-true stray.3 targets one in
     let more : targets ≤ stray.3 = stray.6 in omega arith
@@ -181,6 +179,7 @@ a_cell_of C attribute ends value found other = by_null (is_null value) refl (ato
     by_kind : (atom : Atom) → atom_of value ≡ Some atom → (of : Bool) → is_of_kind ends.kind atom ≡ of → (if of then Some (Some atom) else None) ≡ None
     by_kind atom given true kind = absurd (other (inr (atom, ends, given, found, kind)))
     by_kind atom given false kind = refl
+
     by_null : (blank : Bool) → is_null value ≡ blank → (atom : Option Atom) → atom_of value ≡ atom
         → (if blank then Some None else option_and_then (spec.cell_with ends.kind) atom) ≡ None
     by_null true is atom given = absurd (other (inl (is, refl)))
@@ -228,7 +227,7 @@ one_failure C form cells (Some fault) so is fails =
     let X = instance_of C rows in
     let read = failure_read C rows fault is in
     let first = told (AreClear no_code (λ place. no_code) (EquationFailsAt C form.parts X)) (IsFailure C form.parts X) (with_equations C rows) read.0
-        (failures_first C form.parts form.rows cells) read.1 in
+    (failures_first C form.parts form.rows cells) read.1 in
     (cells, read.0.first, read.0.second, so, stands_at C form.parts X read.0.first read.0.second read.0.code first.1)
 
 -- where none fails, none does at a part
@@ -240,7 +239,7 @@ no_failure C form cells so passes failure =
     let table : Tabled = record { signature = C; rows = rows } in
     let none : equation_fault C rows ≡ None = none_is (equation_fault C rows) passes in
     let clear = told_clear (AreClear no_code (λ place. no_code) (EquationFailsAt C form.parts X)) (IsFailure C form.parts X) (with_equations C rows) table
-        (failures_first C form.parts form.rows cells) (equations_hold C rows none) in
+    (failures_first C form.parts form.rows cells) (equations_hold C rows none) in
     let same : failure.0 ≡ cells = same_Some failure.0 cells (sym failure.3 ∙ so) in
     (clear.lists failure.1).entries failure.2 10
     (subst (λ cells. EquationFailsAt C form.parts (instance_of C (rows_of form.parts form.rows cells)) failure.1 failure.2 10) same failure.4)

@@ -1,5 +1,5 @@
 -- What is wrong with the pieces of a span or a cospan, by the codes of docs/FORMAT.md, and that their readers tell the first of it.
-use Rattle.std.specs.Prelude.{◌≡◌, ◌≢◌, ◌<◌, ◌≤◌, ◌⊎◌, ℕ, true, false, length, List, Option, Some, None, Ok, Err, slice_get, slice_index}
+use Rattle.std.specs.Prelude.{◌≡◌, ◌≢◌, ◌<◌, ◌≤◌, ◌⊎◌, ℕ, true, length, List, Option, Some, None, Ok, Err, slice_get, slice_index}
 use Rattle.serde_json.specs.Data.{Data}
 use Rattle.serde_json.specs.Find.{as_str}
 use Rattle.rw_schema.specs.declared.atom.Atom.{Atom}
@@ -40,14 +40,14 @@ HasOtherLength C form =
     ⊎ (length form.cells ≢ length C.attributes)
     ⊎ ((arrow : ℕ) × (ends : ArrowEnds) × (slice_get C.arrows arrow ≡ Some ends) × (length (list_at form.rows arrow) ≢ slice_index form.parts ends.source.0))
     ⊎ ((attribute : ℕ) × (ends : AttrEnds) × (slice_get C.attributes attribute ≡ Some ends)
-        × (length (list_at form.cells attribute) ≢ slice_index form.parts ends.object.0))
+    × (length (list_at form.cells attribute) ≢ slice_index form.parts ends.object.0))
 
 -- an object has too many parts, or a text too many bytes
 abbrev pub IsPastLimits : InstanceForm → Type 0
 IsPastLimits form =
     ((object : ℕ) × (count : ℕ) × (slice_get form.parts object ≡ Some count) × (most_parts < count))
     ⊎ ((list : ℕ) × (values : List Data) × (position : ℕ) × (value : Data) × (text : List ℕ) × (slice_get form.cells list ≡ Some values)
-        × (slice_get values position ≡ Some value) × (as_str value ≡ Some text) × (longest_text < length text))
+    × (slice_get values position ≡ Some value) × (as_str value ≡ Some text) × (longest_text < length text))
 
 -- an image is no part of its arrow's target
 abbrev pub HasStrayImage : Signature → InstanceForm → Type 0
@@ -140,9 +140,9 @@ FrameHas C section keys from_first to_first from_second to_second value place fa
     ⊎ (place ≡ 2) × (read_instance C (piece_of section 2) (member_at keys.second value) ≡ Err fault)
     ⊎ (place ≡ 3) × (read_instance C (piece_of section 3) (member_at keys.third value) ≡ Err fault)
     ⊎ (place ≡ 4) × ((three : ThreeLists) × HasThree C section keys value three
-        × (read_map C (piece_of section 4) (from_first three) (to_first three) (member_at keys.first_map value) ≡ Err fault))
+    × (read_map C (piece_of section 4) (from_first three) (to_first three) (member_at keys.first_map value) ≡ Err fault))
     ⊎ (place ≡ 5) × ((three : ThreeLists) × HasThree C section keys value three
-        × (read_map C (piece_of section 5) (from_second three) (to_second three) (member_at keys.second_map value) ≡ Err fault))
+    × (read_map C (piece_of section 5) (from_second three) (to_second three) (member_at keys.second_map value) ≡ Err fault))
 
 -- a span tells the fault of its first piece that has one: its maps lead from the apex to the left and to the right
 abbrev pub SpanTellsFirst : Type 0
