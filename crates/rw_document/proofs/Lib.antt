@@ -1,2 +1,3 @@
+mod DocumentCodes
 mod Examples
 mod SoundTable

@@ -1,3 +1,4 @@
+pub mod DocumentCodes
 pub mod Documents
 pub mod Models
 pub mod Views

@@ -4,8 +4,10 @@
 mod document;
 mod ends;
 mod goals;
+mod laws;
 mod read;
 mod values;
 
 pub use document::Document;
+pub use laws::documents_tell_first;
 pub use read::read_document;
