@@ -208,12 +208,15 @@ module _ (ops : List OpEntry) (bytes : List ℕ) where
     built_tells : {B : Type 0} (rules : List RuleRead) (last : List RuleLists → B) → read_rules schema ops (get (codes "rules") value) ≡ Ok rules
         → TellsSection From8 (and_then (build_all value rules) (λ built. Ok (last built)))
     built_tells rules last are_rules = section_then 8 Has8 no_section (build_all value rules) (λ built. Ok (last built)) (from_no_section 9)
-        (λ fault fails. let parts = unbuilt (has_more value) rules fault (map (λ (read : RuleRead). read.rule) rules) fails in (parts.0, with_schema (IsNotBuilt ops) (elim parts.1 [
-          inl more ↦ inl more
-          | inr some ↦ inr (ok_and (read_rules schema ops (get (codes "rules") value)) rules (λ rules. Any (λ read. is_built read ≡ false) rules) are_rules some)
-        ])))
+        (λ fault fails. let parts = unbuilt (has_more value) rules fault (map (λ (read : RuleRead). read.rule) rules) fails in (
+          parts.0,
+          with_schema (IsNotBuilt ops) (elim parts.1 [
+            | inl more ↦ inl more
+            | inr some ↦ inr (ok_and (read_rules schema ops (get (codes "rules") value)) rules (λ rules. Any (λ read. is_built read ≡ false) rules) are_rules some)
+          ]),
+        ))
         (λ built is fault has. all_built (has_more value) rules (map (λ (read : RuleRead). read.rule) rules) built is (elim (of_schema (IsNotBuilt ops) has.1) [
-          inl more ↦ inl more
+          | inl more ↦ inl more
           | inr some ↦ inr (and_ok (read_rules schema ops (get (codes "rules") value)) rules (λ rules. Any (λ read. is_built read ≡ false) rules) are_rules some)
         ]))
         (λ built is section fault has. has)
@@ -241,7 +244,7 @@ module _ (ops : List OpEntry) (bytes : List ℕ) where
     goals_tell second later =
         let IsRulesFault : DocFault → Data → Presentation → Type 0 = λ fault value schema. read_rules schema ops (get (codes "rules") value) ≡ Err fault in
         let IsWatchesFault : DocFault → Data → Presentation → Type 0 = λ fault value schema. IsOkAnd (read_rules schema ops (get (codes "rules") value))
-            (λ rules. read_watches schema (names_of_rules rules) (get (codes "watches") value) ≡ Err fault) in
+        (λ rules. read_watches schema (names_of_rules rules) (get (codes "watches") value) ≡ Err fault) in
         in_turn From4 (read_rules schema ops (get (codes "rules") value)) _ second
         (section_then 4 Has4 From5 (read_rules schema ops (get (codes "rules") value)) _ order5
         (λ fault fails. with_schema (IsRulesFault fault) fails)
