@@ -14,7 +14,7 @@ use Rattle.rw_schema.specs.SchemaFaults.{schema_fault}
 use Rattle.rw_schema.specs.Signature.{Signature, IsCategory}
 use Rattle.rw_schema.proofs.Lists.{list_at_map}
 use Rattle.rw_schema.proofs.Schemas.{presents_category}
-use Rattle.rw_schema.specs.declared.section.Section.TheVariants.{Whole, Schema}
+use Rattle.rw_schema.specs.declared.section.Section.TheVariants.{Whole, Schema, Span}
 use Rattle.rw_spec.specs.Distinct.{AreDistinct}
 use Rattle.rw_spec.specs.Tabled.{Tabled}
 use Rattle.rw_spec.proofs.Ranges.{range_distinct}
@@ -31,9 +31,9 @@ use Rattle.rw_doc.specs.Pieces.{fault_in}
 use Rattle.rw_doc.specs.Schemas as schemas
 use Rattle.rw_doc.proofs.Chains.{chain, checked_then}
 use Rattle.rw_doc.proofs.SoundSchemas.{sections_sound}
+use Rattle.rw_docspan.specs.Frames.{FrameMembers, ThreeLists, members_of, piece_of, read_three}
 use Rattle.rw_docspan.specs.Instances.{read_instance, form_of, has_lengths, is_in_limits, has_images, cells_of}
-use Rattle.rw_docspan.specs.Maps.{read_map}
-use Rattle.rw_docspan.specs.Spans.{SpanLists, read_span, read_span_pieces, span_members, span_piece}
+use Rattle.rw_docspan.specs.Spans.{SpanLists, read_span, read_span_maps, read_span_pieces, span_keys, span_of}
 use Rattle.rw_document.specs.Documents as documents
 use Rattle.rw_document.specs.Models.{DocumentLists}
 
@@ -72,31 +72,37 @@ pub record HasSidesApart (span : SpanLists) : Type 0 where
   pub left : HasNamesApart span.left
   pub right : HasNamesApart span.right
 
+-- of the three instances of a span that are read, the names of the last two are apart
+three_apart : (C : Signature) (members : FrameMembers) (three : ThreeLists) → read_three C Span members ≡ Ok three → HasNamesApart three.second × HasNamesApart three.third
+three_apart C members =
+    let AreApart : ThreeLists → Type 0 = λ three. HasNamesApart three.second × HasNamesApart three.third in
+    chain AreApart (read_instance C (piece_of Span 1) members.first) _
+    (λ first first_is. chain AreApart (read_instance C (piece_of Span 2) members.second) _
+    (λ second second_is. chain AreApart (read_instance C (piece_of Span 3) members.third) _
+    (λ third third_is three is.
+    let read : ThreeLists = record { first = first; second = second; third = third } in
+    let same : read ≡ three = cc in
+    subst AreApart same (instance_apart C (piece_of Span 2) members.second second second_is, instance_apart C (piece_of Span 3) members.third third third_is))))
+
 -- those of a span that is read
 span_apart : (C : Signature) (value : Data) (span : SpanLists) → read_span C value ≡ Ok span → HasSidesApart span
 span_apart C value =
-    chain HasSidesApart (some_or (fault_in (span_piece 0) 2) (span_members value)) (read_span_pieces C)
-    (λ members there. chain HasSidesApart (read_instance C (span_piece 1) members.apex) _
-    (λ apex apex_is. chain HasSidesApart (read_instance C (span_piece 2) members.left) _
-    (λ left left_is. chain HasSidesApart (read_instance C (span_piece 3) members.right) _
-    (λ right right_is. chain HasSidesApart (read_map C (span_piece 4) apex left members.to_left) _
-    (λ to_left to_left_is. chain HasSidesApart (read_map C (span_piece 5) apex right members.to_right) _
-    (λ to_right to_right_is span is.
-    let read : SpanLists = record { apex = apex; left = left; right = right; to_left = to_left; to_right = to_right } in
-    let same : read ≡ span = cc in
-    subst HasSidesApart same (record {
-      left = instance_apart C (span_piece 2) members.left left left_is;
-      right = instance_apart C (span_piece 3) members.right right right_is;
-    })))))))
+    chain HasSidesApart (some_or (fault_in (piece_of Span 0) 2) (members_of span_keys value)) (read_span_pieces C)
+    (λ members there. chain HasSidesApart (read_three C Span members) _
+    (λ three three_is. chain HasSidesApart (read_span_maps C members three) _
+    (λ maps maps_are span is.
+    let same : span_of three maps ≡ span = cc in
+    let apart : HasNamesApart three.second × HasNamesApart three.third = three_apart C members three three_is in
+    subst HasSidesApart same (record { left = apart.0; right = apart.1 }))))
 
 -- those of a span that may be absent
 span_or_none_apart : (C : Signature) (value : Option Data) (span : Option SpanLists) → documents.span_or_none C value ≡ Ok span → IfSome span HasSidesApart
 span_or_none_apart C None span is = let same : None ≡ span = cc in subst (λ span. IfSome span HasSidesApart) same tt
-span_or_none_apart C (Some value) =
+span_or_none_apart C (Some value) span is =
     chain (λ span. IfSome span HasSidesApart) (read_span C value) _
-    (λ read read_is span is.
-    let same : Some read ≡ span = cc in
-    subst (λ span. IfSome span HasSidesApart) same (span_apart C value read read_is))
+    (λ read read_is other is_other.
+    let same : Some read ≡ other = cc in
+    subst (λ span. IfSome span HasSidesApart) same (span_apart C value read read_is)) span is
 
 -- ---- schemas
 

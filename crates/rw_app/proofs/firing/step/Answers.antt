@@ -1,12 +1,17 @@
 use Rattle.std.proofs.Common.{◌≡◌, ℕ, List, map, length, Some, refl, ap, ◌∙◌, arith}
 use Rattle.rw_spec.specs.Tabled.{Tabled}
+use Rattle.rw_terms.specs.OpEntries.{entries}
 use Rattle.rw_document.specs.Models.{document_lists}
 use Rattle.rw_lists.specs.News.{NewsLists, numbered_lists, differences}
 use Rattle.rw_print.specs.Lines.{line, step_data}
 use Rattle.rw_app.specs.Kept.{lists_in}
 use Rattle.rw_app.specs.Runs.{Firing}
 use Rattle.rw_app.proofs.Lengths.{count_vectors}
+use Rattle.rw_app.proofs.Listable.{goals_of_sound}
 use Rattle.rw_app.proofs.firing.step.Goals as goal
+
+pub kept_lists-requires-clause-goals : goal.kept_lists-requires-clause-goals
+kept_lists-requires-clause-goals g c = goals_of_sound (length (entries c.args.ops.now)) (document_lists c.args.document.now) c.requires.sound
 
 pub differences-requires-clause-lists : goal.differences-requires-clause-lists
 differences-requires-clause-lists g c =

@@ -4,4 +4,4 @@ use Rattle.rw_app.proofs.OneAnswer.{one_answer}
 use Rattle.rw_app.proofs.laws.has_one_answer.Goals as goal
 
 pub returns : goal.returns
-returns c request = one_answer (entries c.args.ops.now) request c.args.bytes.now
+returns g c request = one_answer (entries c.args.ops.now) request c.args.bytes.now
