@@ -109,27 +109,27 @@ none_there : {A : Type 0} (found : Option A) → is_none found ≡ true → (fou
 none_there None passes some = some refl
 none_there (Some x) passes some = cc
 
--- the rows of entries, and then those of what comes after
+-- the rows of entries, and then those of what comes after; each local name is that of a row with all rows behind it
 entries_tell : {B : Type 0} (schema : Presentation) (piece : Piece) (form : PatternForm) (Others : ℕ → Type 0) (last : List Entry → Result B DocFault) → IsFrom 10 Others
     → ((entries : List Entry) → entries_named schema.attributes form.entries ≡ Some entries → TellsLeast piece Others (last entries))
     → TellsLeast piece (row 4 (IsPastLimits (signature_of schema) form) (row 6 (HasOtherName schema.attributes form) (row 8 (HasOtherPart schema form)
     (row 9 (HasOtherAtom schema form) (row 10 (BreaksEquation (signature_of schema) form) Others))))) (and_then (read_entries schema piece form) last)
 entries_tell schema piece form Others last from later =
     let C : Signature = signature_of schema in
-    let R10 : ℕ → Type 0 = row 10 (BreaksEquation C form) Others in
-    let R9 : ℕ → Type 0 = row 9 (HasOtherAtom schema form) R10 in
-    let R8 : ℕ → Type 0 = row 8 (HasOtherPart schema form) R9 in
-    let R6 : ℕ → Type 0 = row 6 (HasOtherName schema.attributes form) R8 in
-    let f10 : IsFrom 10 R10 = from_row 10 10 (BreaksEquation C form) Others (omega arith) from in
-    let f9 : IsFrom 9 R9 = from_row 9 10 (HasOtherAtom schema form) R10 (omega arith) f10 in
-    let f8 : IsFrom 8 R8 = from_row 8 9 (HasOtherPart schema form) R9 (omega arith) f9 in
-    let f6 : IsFrom 6 R6 = from_row 6 8 (HasOtherName schema.attributes form) R8 (omega arith) f8 in
-    tells_checked_then piece 4 6 (IsPastLimits C form) R6 (is_form_within C form) _ last (omega arith) f6 (limits_fail C form) (limits_pass C form)
-    (λ within. tells_some_then piece 6 8 (HasOtherName schema.attributes form) R8 (entries_named schema.attributes form.entries) _ last (omega arith) f8
+    let Equations : ℕ → Type 0 = row 10 (BreaksEquation C form) Others in
+    let Atoms : ℕ → Type 0 = row 9 (HasOtherAtom schema form) Equations in
+    let Parts : ℕ → Type 0 = row 8 (HasOtherPart schema form) Atoms in
+    let Names : ℕ → Type 0 = row 6 (HasOtherName schema.attributes form) Parts in
+    let equations_from : IsFrom 10 Equations = from_row 10 10 (BreaksEquation C form) Others (omega arith) from in
+    let atoms_from : IsFrom 9 Atoms = from_row 9 10 (HasOtherAtom schema form) Equations (omega arith) equations_from in
+    let parts_from : IsFrom 8 Parts = from_row 8 9 (HasOtherPart schema form) Atoms (omega arith) atoms_from in
+    let names_from : IsFrom 6 Names = from_row 6 8 (HasOtherName schema.attributes form) Parts (omega arith) parts_from in
+    tells_checked_then piece 4 6 (IsPastLimits C form) Names (is_form_within C form) _ last (omega arith) names_from (limits_fail C form) (limits_pass C form)
+    (λ within. tells_some_then piece 6 8 (HasOtherName schema.attributes form) Parts (entries_named schema.attributes form.entries) _ last (omega arith) parts_from
     (any_missing (entry_named schema.attributes) form.entries) (none_missing (entry_named schema.attributes) form.entries)
-    (λ entries named. tells_checked_then piece 8 9 (HasOtherPart schema form) R9 (are_parts_there C form entries) _ last (omega arith) f9
+    (λ entries named. tells_checked_then piece 8 9 (HasOtherPart schema form) Atoms (are_parts_there C form entries) _ last (omega arith) atoms_from
     (parts_fail schema form entries named) (parts_pass schema form entries named)
-    (λ there. tells_checked_then piece 9 10 (HasOtherAtom schema form) R10 (list_all (fits_atom C) entries) _ last (omega arith) f10
+    (λ there. tells_checked_then piece 9 10 (HasOtherAtom schema form) Equations (list_all (fits_atom C) entries) _ last (omega arith) equations_from
     (λ fails. any_with (entry_named schema.attributes) (λ entry. fits_atom C entry ≡ false) form.entries entries named (any_fails (fits_atom C) entries fails))
     (λ passes other. none_fails (fits_atom C) entries passes (any_without (entry_named schema.attributes) (λ entry. fits_atom C entry ≡ false) form.entries entries named other))
     (λ fit. tells_checked_then piece 10 10 (BreaksEquation C form) Others (is_none (equation_fault C (bare_lists C form))) (Ok entries) last (omega arith) from
@@ -141,15 +141,15 @@ from_form : (schema : Presentation) (found : Option PatternForm) (Others : ℕ �
     → IsFrom 4 (row 4 (IsSomeAnd found (IsPastLimits (signature_of schema))) (row 6 (IsSomeAnd found (HasOtherName schema.attributes)) (row 8 (IsSomeAnd found (HasOtherPart schema))
     (row 9 (IsSomeAnd found (HasOtherAtom schema)) (row 10 (IsSomeAnd found (BreaksEquation (signature_of schema))) Others)))))
 from_form schema found Others from =
-    let R10 : ℕ → Type 0 = row 10 (IsSomeAnd found (BreaksEquation (signature_of schema))) Others in
-    let R9 : ℕ → Type 0 = row 9 (IsSomeAnd found (HasOtherAtom schema)) R10 in
-    let R8 : ℕ → Type 0 = row 8 (IsSomeAnd found (HasOtherPart schema)) R9 in
-    let R6 : ℕ → Type 0 = row 6 (IsSomeAnd found (HasOtherName schema.attributes)) R8 in
-    let f10 : IsFrom 10 R10 = from_row 10 10 (IsSomeAnd found (BreaksEquation (signature_of schema))) Others (omega arith) from in
-    let f9 : IsFrom 9 R9 = from_row 9 10 (IsSomeAnd found (HasOtherAtom schema)) R10 (omega arith) f10 in
-    let f8 : IsFrom 8 R8 = from_row 8 9 (IsSomeAnd found (HasOtherPart schema)) R9 (omega arith) f9 in
-    let f6 : IsFrom 6 R6 = from_row 6 8 (IsSomeAnd found (HasOtherName schema.attributes)) R8 (omega arith) f8 in
-    from_row 4 6 (IsSomeAnd found (IsPastLimits (signature_of schema))) R6 (omega arith) f6
+    let Equations : ℕ → Type 0 = row 10 (IsSomeAnd found (BreaksEquation (signature_of schema))) Others in
+    let Atoms : ℕ → Type 0 = row 9 (IsSomeAnd found (HasOtherAtom schema)) Equations in
+    let Parts : ℕ → Type 0 = row 8 (IsSomeAnd found (HasOtherPart schema)) Atoms in
+    let Names : ℕ → Type 0 = row 6 (IsSomeAnd found (HasOtherName schema.attributes)) Parts in
+    let equations_from : IsFrom 10 Equations = from_row 10 10 (IsSomeAnd found (BreaksEquation (signature_of schema))) Others (omega arith) from in
+    let atoms_from : IsFrom 9 Atoms = from_row 9 10 (IsSomeAnd found (HasOtherAtom schema)) Equations (omega arith) equations_from in
+    let parts_from : IsFrom 8 Parts = from_row 8 9 (IsSomeAnd found (HasOtherPart schema)) Atoms (omega arith) atoms_from in
+    let names_from : IsFrom 6 Names = from_row 6 8 (IsSomeAnd found (HasOtherName schema.attributes)) Parts (omega arith) parts_from in
+    from_row 4 6 (IsSomeAnd found (IsPastLimits (signature_of schema))) Names (omega arith) names_from
 
 -- the rows of a pattern in this form, or in none, and then those of what comes after
 form_tells : {B : Type 0} (schema : Presentation) (piece : Piece) (found : Option PatternForm) (Others : ℕ → Type 0) (last : PatternForm → List Entry → Result B DocFault) → IsFrom 10 Others
