@@ -1,0 +1,199 @@
+//! A column of numbers, threaded by its numbers.
+
+ghost use Rattle.std.specs.Prelude.{◌≡◌, ◌≢◌, ◌==◌, ◌&&◌, ◌<◌, ◌≤◌, ◌+◌, nat_lt, [], ◌∷◌, ◌++◌, length, slice_index, slice_set};
+ghost use Rattle.std.specs.Vec.{vec_capacity};
+ghost use Rattle.rw_column.specs.Threads.{nothing, after, before, IsFirstFrom, IsLed, IsBacked, IsGap};
+
+use std::marker::Model;
+
+/// Stands where there is no place and where there is no number.
+pub(crate) const NOTHING: u32 = 4294967295;
+
+#[derive(Drop)]
+pub struct Column {
+    values: Vec<u32>,
+    next: Vec<u32>,
+    previous: Vec<u32>,
+    first: Vec<u32>,
+    last: Vec<u32>,
+}
+
+impl Model for Column {
+    ghost use Rattle.std.specs.Prelude.{length, min};
+    ghost use Rattle.std.specs.Vec.{vec_capacity};
+    ghost use Rattle.rw_column.specs.Threads.{Threaded, IsThreaded};
+
+    ghost Value = { Threaded };
+
+    ghost view = { λ c. record {
+      values = c.values.items;
+      targets = length c.first.items;
+      room = min (vec_capacity c.values) (min (vec_capacity c.next) (vec_capacity c.previous));
+      target_room = min (vec_capacity c.first) (vec_capacity c.last);
+    } };
+
+    ghost invariant = { λ c. IsThreaded c.values.items c.next.items c.previous.items c.first.items c.last.items };
+}
+
+impl Column {
+    /// A place behind the others, with no number yet.
+    pub fn add_place(&mut self)
+        requires room { length self.old.values < self.old.room }
+        requires few { length self.old.values < nothing }
+        ensures values { self.new.values ≡ self.old.values ++ nothing ∷ [] }
+        ensures targets { self.new.targets ≡ self.old.targets }
+        ensures room { self.old.room ≤ self.new.room }
+        ensures target_room { self.new.target_room ≡ self.old.target_room }
+    {
+        push_within(&mut self.values, NOTHING);
+        push_within(&mut self.next, NOTHING);
+        push_within(&mut self.previous, 0);
+    }
+
+    /// One more number that may stand at places.
+    pub fn add_target(&mut self)
+        requires room { self.old.targets < self.old.target_room }
+        requires few { self.old.targets < nothing }
+        ensures values { self.new.values ≡ self.old.values }
+        ensures targets { self.new.targets ≡ self.old.targets + 1 }
+        ensures room { self.new.room ≡ self.old.room }
+        ensures target_room { self.old.target_room ≤ self.new.target_room }
+    {
+        push_within(&mut self.first, NOTHING);
+        push_within(&mut self.last, 0);
+    }
+
+    /// Puts a place without a number into the thread of one.
+    pub fn link(&mut self, place: u32, value: u32)
+        requires place { place < length self.old.values }
+        requires value { value < self.old.targets }
+        requires free { slice_index self.old.values place ≡ nothing }
+        ensures { self.new ≡ record { values = slice_set self.old.values place value; targets = self.old.targets; room = self.old.room; target_room = self.old.target_room } }
+    {
+        let (node, stop) = gap(self, place, value);
+        self.values[place as usize] = value;
+        self.next[place as usize] = stop;
+        self.previous[place as usize] = node;
+        lead(&mut self.next, &mut self.first, value, node, place);
+        back(&mut self.previous, &mut self.last, value, stop, place + 1);
+    }
+
+    /// Takes the place out of the thread of its number.
+    pub fn unlink(&mut self, place: u32)
+        requires place { place < length self.old.values }
+        requires some { slice_index self.old.values place ≢ nothing }
+        ensures { self.new ≡ record { values = slice_set self.old.values place nothing; targets = self.old.targets; room = self.old.room; target_room = self.old.target_room } }
+    {
+        let value = entry(&self.values, place);
+        let node = entry(&self.previous, place);
+        let stop = entry(&self.next, place);
+        lead(&mut self.next, &mut self.first, value, node, stop);
+        back(&mut self.previous, &mut self.last, value, stop, node);
+        self.values[place as usize] = NOTHING;
+    }
+
+    /// The first place that has the number, or nothing.
+    pub(crate) fn first(&self, value: u32) -> u32
+        requires { value < self.now.targets }
+        ensures first { IsFirstFrom (length self.now.values) (slice_index self.now.values) value 0 result }
+        ensures few { length self.now.values ≤ nothing }
+    {
+        entry(&self.first, value)
+    }
+
+    /// The next place that has the same number as this one, or nothing.
+    pub(crate) fn next(&self, place: u32) -> u32
+        requires place { place < length self.now.values }
+        requires value { slice_index self.now.values place < self.now.targets }
+        ensures next { IsFirstFrom (length self.now.values) (slice_index self.now.values) (slice_index self.now.values place) (place + 1) result }
+        ensures few { length self.now.values ≤ nothing }
+    {
+        entry(&self.next, place)
+    }
+
+    /// Whether the place is there and has the number.
+    pub fn has(&self, place: u32, value: u32) -> bool
+        ensures { result ≡ (nat_lt place (length self.now.values) && slice_index self.now.values place == value) }
+    {
+        if place as usize >= self.values.len() {
+            return false;
+        }
+        entry(&self.values, place) == value
+    }
+
+    /// The number at the place.
+    pub fn value(&self, place: u32) -> u32
+        requires { place < length self.now.values }
+        ensures { result ≡ slice_index self.now.values place }
+    {
+        self.values[place as usize]
+    }
+}
+
+/// Appends the number, for which there is memory.
+fn push_within(list: &mut Vec<u32>, number: u32)
+    requires { length list.old.items < vec_capacity list.old }
+    ensures items { list.new.items ≡ list.old.items ++ number ∷ [] }
+    ensures room { vec_capacity list.old ≤ vec_capacity list.new }
+{
+    let pushed = list.push(number);
+    prove!(pushed.is_ok());
+}
+
+/// The number at the place of the list.
+fn entry(list: &Vec<u32>, place: u32) -> u32
+    requires { place < length list.now.items }
+    ensures { result ≡ slice_index list.now.items place }
+{
+    list[place as usize]
+}
+
+/// The node of the number behind which the place stands, and the place before which it stands.
+fn gap(column: &Column, place: u32, value: u32) -> (u32, u32)
+    requires place { place < length column.now.values }
+    requires value { value < column.now.targets }
+    requires free { slice_index column.now.values place ≡ nothing }
+    ensures { IsGap (length column.now.values) (slice_index column.now.values) value place result.0 result.1 }
+{
+    let mut node = entry(&column.last, value);
+    let mut stop = NOTHING;
+    while node > place {
+        stop = node - 1;
+        node = entry(&column.previous, stop);
+    }
+    (node, stop)
+}
+
+/// Lets the node of the number lead to another place.
+fn lead(next: &mut Vec<u32>, first: &mut Vec<u32>, value: u32, node: u32, stop: u32)
+    requires value { value < length first.old.items }
+    requires node { node < length next.old.items + 1 }
+    ensures next { length next.new.items ≡ length next.old.items }
+    ensures first { length first.new.items ≡ length first.old.items }
+    ensures next_room { vec_capacity next.new ≡ vec_capacity next.old }
+    ensures first_room { vec_capacity first.new ≡ vec_capacity first.old }
+    ensures led { IsLed (after next.old.items first.old.items) (after next.new.items first.new.items) value node stop }
+{
+    if node == 0 {
+        first[value as usize] = stop;
+    } else {
+        next[node as usize - 1] = stop;
+    }
+}
+
+/// Lets the place be led to by the node.
+fn back(previous: &mut Vec<u32>, last: &mut Vec<u32>, value: u32, stop: u32, node: u32)
+    requires value { value < length last.old.items }
+    requires stop { stop ≢ nothing → stop < length previous.old.items }
+    ensures previous { length previous.new.items ≡ length previous.old.items }
+    ensures last { length last.new.items ≡ length last.old.items }
+    ensures previous_room { vec_capacity previous.new ≡ vec_capacity previous.old }
+    ensures last_room { vec_capacity last.new ≡ vec_capacity last.old }
+    ensures backed { IsBacked (before previous.old.items last.old.items) (before previous.new.items last.new.items) value stop node }
+{
+    if stop == NOTHING {
+        last[value as usize] = node;
+    } else {
+        previous[stop as usize] = node;
+    }
+}
