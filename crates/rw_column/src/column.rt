@@ -121,6 +121,13 @@ impl Column {
         entry(&self.values, place) == value
     }
 
+    /// How many places there are.
+    pub fn places(&self) -> u32
+        ensures { result ≡ length self.now.values }
+    {
+        self.values.len() as u32
+    }
+
     /// The number at the place.
     pub fn value(&self, place: u32) -> u32
         requires { place < length self.now.values }
