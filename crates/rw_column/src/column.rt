@@ -1,6 +1,6 @@
 //! A column of numbers, threaded by its numbers.
 
-ghost use Rattle.std.specs.Prelude.{◌≡◌, ◌≢◌, ◌==◌, ◌&&◌, ◌<◌, ◌≤◌, ◌+◌, nat_lt, [], ◌∷◌, ◌++◌, length, replicate, slice_index, slice_set, IfOk};
+ghost use Rattle.std.specs.Prelude.{◌≡◌, ◌≢◌, ◌==◌, ◌&&◌, ◌<◌, ◌≤◌, ◌+◌, nat_lt, [], ◌∷◌, ◌++◌, length, replicate, slice_index, slice_set, IfOk, IsOk, OnOk};
 ghost use Rattle.std.specs.Vec.{vec_capacity};
 ghost use Rattle.rw_column.specs.Threads.{nothing, after, before, IsFirstFrom, IsLed, IsBacked, IsGap};
 
@@ -49,6 +49,23 @@ impl Column {
             first: vec![in alloc; NOTHING; targets as usize]?,
             last: vec![in alloc; 0; targets as usize]?,
         })
+    }
+
+    /// Makes room for so many more places and so many more numbers, so that adding them takes no memory.
+    pub fn make_room(&mut self, places: u32, targets: u32) -> Result<(), AllocError>
+        ensures values { self.new.values ≡ self.old.values }
+        ensures targets { self.new.targets ≡ self.old.targets }
+        ensures room { OnOk result (length self.old.values + places ≤ self.new.room) }
+        ensures target_room { OnOk result (self.old.targets + targets ≤ self.new.target_room) }
+        ensures kept_room { self.old.room ≤ self.new.room }
+        ensures kept_target_room { self.old.target_room ≤ self.new.target_room }
+        ensures succeeds { length self.old.values + places ≤ self.old.room → self.old.targets + targets ≤ self.old.target_room → IsOk result }
+    {
+        self.values.reserve(places as usize)?;
+        self.next.reserve(places as usize)?;
+        self.previous.reserve(places as usize)?;
+        self.first.reserve(targets as usize)?;
+        self.last.reserve(targets as usize)
     }
 
     /// A place behind the others, with no number yet.
