@@ -2,7 +2,8 @@
 use Rattle.std.proofs.Common.{◌≡◌, ℕ, ◌+◌, ◌-◌, ◌<◌, ◌≤◌, refl, sym, ◌∙◌, inl, inr, subst, arith}
 use Rattle.std.specs.Prelude.{◌≢◌}
 use Rattle.std.proofs.lemmas.Bool.{cases_lt, cases_eq, cases_order}
-use Rattle.rw_column.specs.Threads.{nothing, IsNode, IsStop, IsFirstFrom, AreLinks, IsLed, IsBacked}
+use Rattle.rw_column.specs.Threads.{nothing}
+use Rattle.rw_column.specs.inner.Links.{IsNode, IsStop, IsFirstFrom, AreLinks, IsLed, IsBacked}
 
 -- of two nodes the lesser does not lead where the other one does
 lesser_leads : (n : ℕ) (V : ℕ → ℕ) (v p q s : ℕ) → n ≤ nothing → IsNode n V v q → IsFirstFrom n V v p s → IsFirstFrom n V v q s → p < q → ⊥

@@ -3,7 +3,9 @@ use Rattle.std.proofs.Common.{◌≡◌, ℕ, ◌+◌, ◌-◌, ◌<◌, ◌≤�
 use Rattle.std.specs.Prelude.{◌≢◌}
 use Rattle.std.proofs.lemmas.Bool.{cases_eq}
 use Rattle.std.proofs.lemmas.List.{get_or_append_left, get_or-append_right, length-replicate, get_or-replicate}
-use Rattle.rw_column.specs.Threads.{nothing, IsNode, IsStop, IsFirstFrom, AreLinks, IsLed, IsBacked, IsAhead, IsGap, IsThreaded, after, before}
+use Rattle.rw_column.specs.Threads.{nothing}
+use Rattle.rw_column.specs.inner.Links.{IsNode, IsFirstFrom, AreLinks, IsLed, IsBacked, IsAhead, IsGap}
+use Rattle.rw_column.specs.inner.Threads.{IsThreaded, after, before}
 use Rattle.rw_column.proofs.Links.{unlinked, linked, unlinked_all, grown, widened}
 
 -- what follows a place

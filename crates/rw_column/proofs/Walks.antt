@@ -3,7 +3,8 @@ use Rattle.std.proofs.Common.{◌≡◌, ℕ, suc, zero, ◌+◌, ◌-◌, ◌<�
 use Rattle.std.specs.Prelude.{◌≢◌}
 use Rattle.std.specs.List.{range_with_len}
 use Rattle.std.proofs.lemmas.Bool.{cases_eq}
-use Rattle.rw_column.specs.Threads.{nothing, IsFirstFrom, places_from}
+use Rattle.rw_column.specs.Threads.{nothing, places_from}
+use Rattle.rw_column.specs.inner.Links.{IsFirstFrom}
 
 -- no number of the range passes the test
 none_in : (test : ℕ → Bool) (m k : ℕ) → ((z : ℕ) → k ≤ z → z < k + m → test z ≡ false) → filter test (range_with_len k m) ≡ []

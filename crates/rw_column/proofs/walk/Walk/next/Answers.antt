@@ -1,5 +1,5 @@
 use Rattle.std.proofs.Common.{◌∙◌, sym, ◌<◌, ℕ, length, get_or, ◌≡◌, subst, ◌+◌}
-use Rattle.rw_column.specs.Threads.{IsFirstFrom}
+use Rattle.rw_column.specs.inner.Links.{IsFirstFrom}
 use Rattle.rw_column.proofs.Walks.{stepped}
 use Rattle.rw_column.proofs.walk.Walk.next.Goals as goal
 
