@@ -1,7 +1,7 @@
 -- What a place that is taken out of its thread, or put into one, does to the links.
 use Rattle.std.proofs.Common.{◌≡◌, ℕ, ◌+◌, ◌-◌, ◌<◌, ◌≤◌, refl, sym, ◌∙◌, inl, inr, subst, arith}
 use Rattle.std.specs.Prelude.{◌≢◌}
-use Rattle.std.proofs.lemmas.Bool.{cases_lt, cases_eq, cases_order}
+use Rattle.std.proofs.lemmas.Bool.{cases_eq, cases_order}
 use Rattle.rw_column.specs.Threads.{nothing}
 use Rattle.rw_column.specs.inner.Links.{IsNode, IsStop, IsFirstFrom, AreLinks, IsLed, IsBacked}
 
@@ -29,13 +29,13 @@ elsewhere n V a a' v p y u q led node other apart =
     elim (cases_eq q p) [
       | inr differ ↦ led.others u q differ
       | inl same ↦ elim (cases_eq q 0) [
-          | inl head ↦ subst (λ (k : ℕ). a' u k ≡ a u k) (sym head) (led.heads u apart)
-          | inr place ↦
-              let w : ℕ = q - 1 in
-              let here : (w < n) × (V w ≡ v) = node w (omega arith) in
-              let there : (w < n) × (V w ≡ u) = other w (omega arith) in
-              absurd (apart (sym there.1 ∙ here.1))
-        ]
+        | inl head ↦ subst (λ (k : ℕ). a' u k ≡ a u k) (sym head) (led.heads u apart)
+        | inr place ↦
+            let w : ℕ = q - 1 in
+            let here : (w < n) × (V w ≡ v) = node w (omega arith) in
+            let there : (w < n) × (V w ≡ u) = other w (omega arith) in
+            absurd (apart (sym there.1 ∙ here.1))
+      ]
     ]
 
 -- likewise for the nodes that lead to places
@@ -44,12 +44,12 @@ elsewhere_back n V b b' v p y u s backed stop other apart =
     elim (cases_eq s y) [
       | inr differ ↦ backed.others u s differ
       | inl same ↦ elim (cases_eq s nothing) [
-          | inl end ↦ subst (λ (k : ℕ). b' u k ≡ b u k) (sym end) (backed.tails u apart)
-          | inr place ↦
-              let there : (s < n) × (V s ≡ u) = other place in
-              let here : (y < n) × (V y ≡ v) = stop (λ e. place (same ∙ e)) in
-              absurd (apart (sym there.1 ∙ (subst (λ (k : ℕ). V k ≡ v) (sym same) here.1)))
-        ]
+        | inl end ↦ subst (λ (k : ℕ). b' u k ≡ b u k) (sym end) (backed.tails u apart)
+        | inr place ↦
+            let there : (s < n) × (V s ≡ u) = other place in
+            let here : (y < n) × (V y ≡ v) = stop (λ e. place (same ∙ e)) in
+            absurd (apart (sym there.1 ∙ (subst (λ (k : ℕ). V k ≡ v) (sym same) here.1)))
+      ]
     ]
 
 module _ (n t : ℕ) (V V' : ℕ → ℕ) (x : ℕ) (few : n ≤ nothing) (few_targets : t ≤ nothing) (within : x < n)
@@ -62,8 +62,9 @@ module _ (n t : ℕ) (V V' : ℕ → ℕ) (x : ℕ) (few : n ≤ nothing) (few_t
 
   node_before : (u q : ℕ) → u < t → IsNode n V' u q → IsNode n V u q × (q ≢ x + 1)
   node_before u q known node = (
-      λ place is. ((node place is).0, (had u place known (node place is).1).1),
-      λ e. (had u x known (node x e).1).0 refl)
+    λ place is. ((node place is).0, (had u place known (node place is).1).1),
+    λ e. (had u x known (node x e).1).0 refl,
+  )
 
   node_after : (u q : ℕ) → IsNode n V u q → q ≢ x + 1 → IsNode n V' u q
   node_after u q node apart place is =
@@ -75,7 +76,7 @@ module _ (n t : ℕ) (V V' : ℕ → ℕ) (x : ℕ) (few : n ≤ nothing) (few_t
     there = λ some. let at = first.there some in (at.0, at.1, others s apart ∙ at.2);
   }
 
--- ---- taking a place out
+  -- ---- taking a place out
 
   first_unlinked : (a b a' : ℕ → ℕ → ℕ) (v p y : ℕ) → AreLinks n t V a b → v < t → V x ≡ v → IsNode n V v p → a v p ≡ x → IsFirstFrom n V v (x + 1) y
       → IsLed a a' v p y → (u q : ℕ) → u < t → IsNode n V' u q → IsFirstFrom n V' u q (a' u q)
@@ -86,31 +87,31 @@ module _ (n t : ℕ) (V V' : ℕ → ℕ) (x : ℕ) (few : n ≤ nothing) (few_t
         | inr apart ↦
             let stays : a' u q ≡ a u q = elsewhere n V a a' v p y u q led node was.0 apart in
             let kept : IsFirstFrom n V' u q (a u q) = first_after u q (a u q) in_range
-              (λ e. apart (sym (subst (λ (k : ℕ). V k ≡ u) e (first.there (λ none. omega (arith, none, e))).2) ∙ is)) first in
+            (λ e. apart (sym (subst (λ (k : ℕ). V k ≡ u) e (first.there (λ none. omega (arith, none, e))).2) ∙ is)) first in
             subst (IsFirstFrom n V' u q) (sym stays) kept
         | inl same ↦ elim (cases_eq q p) [
-            | inr other ↦
-                let stays : a' u q ≡ a u q = led.others u q other in
-                let apart : a u q ≢ x = λ e. other (one_leads n V v q p x few (subst (λ (k : ℕ). IsNode n V k q) same was.0) node
-                    (subst (λ (k : ℕ). IsFirstFrom n V k q x) same (subst (IsFirstFrom n V u q) e first))
-                    (subst (IsFirstFrom n V v p) leads (links.leads v p known node))) in
-                subst (IsFirstFrom n V' u q) (sym stays) (first_after u q (a u q) in_range apart first)
-            | inl here ↦
-                let before_x : IsFirstFrom n V v p x = subst (IsFirstFrom n V v p) leads (links.leads v p known node) in
-                let at_x : (p ≤ x) × (x < n) × (V x ≡ v) = before_x.there (λ e. omega (arith, e)) in
-                let from_p : IsFirstFrom n V' v p y = record {
-                  least = λ z from in_z z_is.
+          | inr other ↦
+              let stays : a' u q ≡ a u q = led.others u q other in
+              let apart : a u q ≢ x = λ e. other (one_leads n V v q p x few (subst (λ (k : ℕ). IsNode n V k q) same was.0) node
+              (subst (λ (k : ℕ). IsFirstFrom n V k q x) same (subst (IsFirstFrom n V u q) e first))
+              (subst (IsFirstFrom n V v p) leads (links.leads v p known node))) in
+              subst (IsFirstFrom n V' u q) (sym stays) (first_after u q (a u q) in_range apart first)
+          | inl here ↦
+              let before_x : IsFirstFrom n V v p x = subst (IsFirstFrom n V v p) leads (links.leads v p known node) in
+              let at_x : (p ≤ x) × (x < n) × (V x ≡ v) = before_x.there (λ e. omega (arith, e)) in
+              let from_p : IsFirstFrom n V' v p y = record {
+                least = λ z from in_z z_is.
                     let old : (z ≢ x) × (V z ≡ v) = had v z known z_is in
                     elim (cases_order z x) [
                       | inl e ↦ absurd (old.0 e)
                       | inr (inl less) ↦ let behind : x ≤ z = before_x.least z from in_z old.1 in omega arith
                       | inr (inr more) ↦ rest.least z (omega arith) in_z old.1
                     ];
-                  there = λ some. let at = rest.there some in (omega (arith, at.0, at_x.0), at.1, others y (λ e. omega (arith, at.0, e)) ∙ at.2);
-                } in
-                subst (λ (k : ℕ). IsFirstFrom n V' u q k) (sym (subst (λ (k : ℕ). a' k q ≡ y) (sym same) (subst (λ (k : ℕ). a' v k ≡ y) (sym here) led.here)))
-                (subst (λ (k : ℕ). IsFirstFrom n V' k q y) (sym same) (subst (λ (k : ℕ). IsFirstFrom n V' v k y) (sym here) from_p))
-          ]
+                there = λ some. let at = rest.there some in (omega (arith, at.0, at_x.0), at.1, others y (λ e. omega (arith, at.0, e)) ∙ at.2);
+              } in
+              subst (λ (k : ℕ). IsFirstFrom n V' u q k) (sym (subst (λ (k : ℕ). a' k q ≡ y) (sym same) (subst (λ (k : ℕ). a' v k ≡ y) (sym here) led.here)))
+              (subst (λ (k : ℕ). IsFirstFrom n V' k q y) (sym same) (subst (λ (k : ℕ). IsFirstFrom n V' v k y) (sym here) from_p))
+        ]
       ]
 
   back_unlinked : (a b a' b' : ℕ → ℕ → ℕ) (v p y : ℕ) → AreLinks n t V a b → v < t → V x ≡ v → IsNode n V v p → a v p ≡ x → a v (x + 1) ≡ y
@@ -129,20 +130,20 @@ module _ (n t : ℕ) (V V' : ℕ → ℕ) (x : ℕ) (few : n ≤ nothing) (few_t
             let leads_on : a' u (b u s) ≡ s = elsewhere n V a a' v p y u (b u s) led node old.0 apart ∙ old.1 in
             subst (λ (q : ℕ). IsNode n V' u q × (a' u q ≡ s)) (sym stays) (node_after u (b u s) old.0 not_x, leads_on)
         | inl same ↦ elim (cases_eq s y) [
-            | inl here ↦
-                let before_x : IsFirstFrom n V v p x = subst (IsFirstFrom n V v p) leads (links.leads v p known node) in
-                let at_p : (p ≤ x) × (x < n) × (V x ≡ v) = before_x.there (λ e. omega (arith, e)) in
-                let node' : IsNode n V' v p = node_after v p node (λ e. omega (arith, at_p.0, e)) in
-                let goes : b' u s ≡ p = subst (λ (k : ℕ). b' k s ≡ p) (sym same) (subst (λ (k : ℕ). b' v k ≡ p) (sym here) backed.here) in
-                let leads_on : a' u p ≡ s = subst (λ (k : ℕ). a' k p ≡ s) (sym same) (led.here ∙ sym here) in
-                subst (λ (q : ℕ). IsNode n V' u q × (a' u q ≡ s)) (sym goes) (subst (λ (k : ℕ). IsNode n V' k p) (sym same) node', leads_on)
-            | inr other ↦
-                let stays : b' u s ≡ b u s = backed.others u s other in
-                let not_x : b u s ≢ x + 1 = λ e. other (sym old.1 ∙ subst (λ (k : ℕ). a k (b u s) ≡ y) (sym same) (subst (λ (k : ℕ). a v k ≡ y) (sym e) rest)) in
-                let not_p : b u s ≢ p = λ e. apart_x (sym old.1 ∙ subst (λ (k : ℕ). a k (b u s) ≡ x) (sym same) (subst (λ (k : ℕ). a v k ≡ x) (sym e) leads)) in
-                subst (λ (q : ℕ). IsNode n V' u q × (a' u q ≡ s)) (sym stays)
-                (node_after u (b u s) old.0 not_x, led.others u (b u s) not_p ∙ old.1)
-          ]
+          | inl here ↦
+              let before_x : IsFirstFrom n V v p x = subst (IsFirstFrom n V v p) leads (links.leads v p known node) in
+              let at_p : (p ≤ x) × (x < n) × (V x ≡ v) = before_x.there (λ e. omega (arith, e)) in
+              let node' : IsNode n V' v p = node_after v p node (λ e. omega (arith, at_p.0, e)) in
+              let goes : b' u s ≡ p = subst (λ (k : ℕ). b' k s ≡ p) (sym same) (subst (λ (k : ℕ). b' v k ≡ p) (sym here) backed.here) in
+              let leads_on : a' u p ≡ s = subst (λ (k : ℕ). a' k p ≡ s) (sym same) (led.here ∙ sym here) in
+              subst (λ (q : ℕ). IsNode n V' u q × (a' u q ≡ s)) (sym goes) (subst (λ (k : ℕ). IsNode n V' k p) (sym same) node', leads_on)
+          | inr other ↦
+              let stays : b' u s ≡ b u s = backed.others u s other in
+              let not_x : b u s ≢ x + 1 = λ e. other (sym old.1 ∙ subst (λ (k : ℕ). a k (b u s) ≡ y) (sym same) (subst (λ (k : ℕ). a v k ≡ y) (sym e) rest)) in
+              let not_p : b u s ≢ p = λ e. apart_x (sym old.1 ∙ subst (λ (k : ℕ). a k (b u s) ≡ x) (sym same) (subst (λ (k : ℕ). a v k ≡ x) (sym e) leads)) in
+              subst (λ (q : ℕ). IsNode n V' u q × (a' u q ≡ s)) (sym stays)
+              (node_after u (b u s) old.0 not_x, led.others u (b u s) not_p ∙ old.1)
+        ]
       ]
 
   -- a place is taken out of its thread
@@ -199,30 +200,30 @@ module _ (n t : ℕ) (V V' : ℕ → ℕ) (x v p y : ℕ) (few : n ≤ nothing) 
     first_here q old =
         elim (cases_eq q p) [
           | inl same ↦ subst (λ (k : ℕ). IsFirstFrom n V' v k (a' v k)) (sym same) (subst (IsFirstFrom n V' v p) (sym led.here) (record {
-              least = λ z from in_z is. elim (cases_eq z x) [
-                | inl e ↦ omega (arith, e)
-                | inr apart ↦ let far : y ≤ z = p_first.least z from in_z (sym (others z apart) ∙ is) in omega (arith, far, after_x)
-              ];
-              there = λ some. (before_x, within, put);
-            }))
+            least = λ z from in_z is. elim (cases_eq z x) [
+              | inl e ↦ omega (arith, e)
+              | inr apart ↦ let far : y ≤ z = p_first.least z from in_z (sym (others z apart) ∙ is) in omega (arith, far, after_x)
+            ];
+            there = λ some. (before_x, within, put);
+          }))
           | inr apart ↦
               let first : IsFirstFrom n V v q (a v q) = links.leads v q known old in
               subst (IsFirstFrom n V' v q) (sym (stays v q apart (not_behind v q known old))) (record {
                 least = λ z from in_z is. elim (cases_eq z x) [
                   | inr other ↦ first.least z from in_z (sym (others z other) ∙ is)
                   | inl e ↦ elim (cases_order q p) [
-                      | inl same ↦ absurd (apart same)
-                      | inr (inl less) ↦
-                          let w : ℕ = p - 1 in
-                          let at : (w < n) × (V w ≡ v) = node w (omega arith) in
-                          let near : a v q ≤ w = first.least w (omega arith) at.0 at.1 in
-                          omega (arith, near, before_x, e)
-                      | inr (inr more) ↦
-                          let w : ℕ = q - 1 in
-                          let at : (w < n) × (V w ≡ v) = old w (omega arith) in
-                          let far : y ≤ w = p_first.least w (omega arith) at.0 at.1 in
-                          omega (arith, far, after_x, e, from)
-                    ]
+                    | inl same ↦ absurd (apart same)
+                    | inr (inl less) ↦
+                        let w : ℕ = p - 1 in
+                        let at : (w < n) × (V w ≡ v) = node w (omega arith) in
+                        let near : a v q ≤ w = first.least w (omega arith) at.0 at.1 in
+                        omega (arith, near, before_x, e)
+                    | inr (inr more) ↦
+                        let w : ℕ = q - 1 in
+                        let at : (w < n) × (V w ≡ v) = old w (omega arith) in
+                        let far : y ≤ w = p_first.least w (omega arith) at.0 at.1 in
+                        omega (arith, far, after_x, e, from)
+                  ]
                 ];
                 there = λ some. let at = first.there some in (at.0, at.1, others (a v q) (not_x v (a v q) known at.2) ∙ at.2);
               })
@@ -247,7 +248,7 @@ module _ (n t : ℕ) (V V' : ℕ → ℕ) (x v p y : ℕ) (few : n ≤ nothing) 
                     let first : IsFirstFrom n V u q (a u q) = links.leads u q in_range old in
                     subst (IsFirstFrom n V' u q) (sym (stays_elsewhere u q in_range old apart)) (record {
                       least = λ z from in_z is. first.least z from in_z
-                        (sym (others z (λ e. apart (sym is ∙ subst (λ (k : ℕ). V' k ≡ v) (sym e) put))) ∙ is);
+                          (sym (others z (λ e. apart (sym is ∙ subst (λ (k : ℕ). V' k ≡ v) (sym e) put))) ∙ is);
                       there = λ some. let at = first.there some in (at.0, at.1, others (a u q) (not_x u (a u q) in_range at.2) ∙ at.2);
                     })
               ]
@@ -271,17 +272,17 @@ module _ (n t : ℕ) (V V' : ℕ → ℕ) (x v p y : ℕ) (few : n ≤ nothing) 
                     subst (λ (q : ℕ). IsNode n V' u q × (a' u q ≡ s)) (sym goes)
                     (node_more u (b u s) in_range old.0, stays_elsewhere u (b u s) in_range old.0 apart ∙ old.1)
                 | inl same ↦ elim (cases_eq s y) [
-                    | inl at_y ↦
-                        let goes : b' u s ≡ x + 1 = subst (λ (k : ℕ). b' k s ≡ x + 1) (sym same) (subst (λ (k : ℕ). b' v k ≡ x + 1) (sym at_y) backed.here) in
-                        let x_node : IsNode n V' v (x + 1) = λ place e. (omega arith, subst (λ (k : ℕ). V' k ≡ v) (let k : x ≡ place = omega arith in k) put) in
-                        subst (λ (q : ℕ). IsNode n V' u q × (a' u q ≡ s)) (sym goes)
-                        (subst (λ (k : ℕ). IsNode n V' k (x + 1)) (sym same) x_node, leads_on u ∙ sym at_y)
-                    | inr other ↦
-                        let goes : b' u s ≡ b u s = backed.others u s other ∙ b_others u s apart_x in
-                        let not_p : b u s ≢ p = λ e. other (sym old.1 ∙ subst (λ (k : ℕ). a k (b u s) ≡ y) (sym same) (subst (λ (k : ℕ). a v k ≡ y) (sym e) leads)) in
-                        subst (λ (q : ℕ). IsNode n V' u q × (a' u q ≡ s)) (sym goes)
-                        (node_more u (b u s) in_range old.0, stays u (b u s) not_p (not_behind u (b u s) in_range old.0) ∙ old.1)
-                  ]
+                  | inl at_y ↦
+                      let goes : b' u s ≡ x + 1 = subst (λ (k : ℕ). b' k s ≡ x + 1) (sym same) (subst (λ (k : ℕ). b' v k ≡ x + 1) (sym at_y) backed.here) in
+                      let x_node : IsNode n V' v (x + 1) = λ place e. (omega arith, subst (λ (k : ℕ). V' k ≡ v) (let k : x ≡ place = omega arith in k) put) in
+                      subst (λ (q : ℕ). IsNode n V' u q × (a' u q ≡ s)) (sym goes)
+                      (subst (λ (k : ℕ). IsNode n V' k (x + 1)) (sym same) x_node, leads_on u ∙ sym at_y)
+                  | inr other ↦
+                      let goes : b' u s ≡ b u s = backed.others u s other ∙ b_others u s apart_x in
+                      let not_p : b u s ≢ p = λ e. other (sym old.1 ∙ subst (λ (k : ℕ). a k (b u s) ≡ y) (sym same) (subst (λ (k : ℕ). a v k ≡ y) (sym e) leads)) in
+                      subst (λ (q : ℕ). IsNode n V' u q × (a' u q ≡ s)) (sym goes)
+                      (node_more u (b u s) in_range old.0, stays u (b u s) not_p (not_behind u (b u s) in_range old.0) ∙ old.1)
+                ]
               ]
         ]
 
@@ -296,19 +297,19 @@ pub grown : (n t : ℕ) (V V' : ℕ → ℕ) (a b a' b' : ℕ → ℕ → ℕ) �
 grown n t V V' a b a' b' few_targets links none others a_stays b_stays =
     record {
       leads = λ v q known new.
-        let old : IsNode n V v q = node_back v q known new in
-        let first : IsFirstFrom n V v q (a v q) = links.leads v q known old in
-        subst (IsFirstFrom (n + 1) V' v q) (sym (a_stays v q old)) (record {
-          least = λ z from in_range is.
-            let at : (z < n) × (V z ≡ v) = old_place v z known in_range is in
-            first.least z from at.0 at.1;
-          there = λ some. let at = first.there some in (at.0, omega (arith, at.1), others (a v q) at.1 ∙ at.2);
-        });
+          let old : IsNode n V v q = node_back v q known new in
+          let first : IsFirstFrom n V v q (a v q) = links.leads v q known old in
+          subst (IsFirstFrom (n + 1) V' v q) (sym (a_stays v q old)) (record {
+            least = λ z from in_range is.
+                let at : (z < n) × (V z ≡ v) = old_place v z known in_range is in
+                first.least z from at.0 at.1;
+            there = λ some. let at = first.there some in (at.0, omega (arith, at.1), others (a v q) at.1 ∙ at.2);
+          });
       back = λ v s known new.
-        let old : IsStop n V v s = λ some. let at = new some in old_place v s known at.0 at.1 in
-        let at : IsNode n V v (b v s) × (a v (b v s) ≡ s) = links.back v s known old in
-        subst (λ (q : ℕ). IsNode (n + 1) V' v q × (a' v q ≡ s)) (sym (b_stays v s old))
-        ((λ place is. let here = at.0 place is in (omega (arith, here.0), others place here.0 ∙ here.1)), a_stays v (b v s) at.0 ∙ at.1);
+          let old : IsStop n V v s = λ some. let at = new some in old_place v s known at.0 at.1 in
+          let at : IsNode n V v (b v s) × (a v (b v s) ≡ s) = links.back v s known old in
+          subst (λ (q : ℕ). IsNode (n + 1) V' v q × (a' v q ≡ s)) (sym (b_stays v s old))
+          ((λ place is. let here = at.0 place is in (omega (arith, here.0), others place here.0 ∙ here.1)), a_stays v (b v s) at.0 ∙ at.1);
     }
   where
     old_place : (v z : ℕ) → v < t → z < n + 1 → V' z ≡ v → (z < n) × (V z ≡ v)
@@ -372,24 +373,24 @@ pub widened : (n t : ℕ) (V : ℕ → ℕ) (a b a' b' : ℕ → ℕ → ℕ) �
 widened n t V a b a' b' few links within few_targets a_stays b_stays no_first no_last =
     record {
       leads = λ v q known node.
-        elim (cases_eq v t) [
-          | inr old ↦
-              let less : v < t = omega (arith, old) in
-              subst (IsFirstFrom n V v q) (sym (a_stays v q less)) (links.leads v q less node)
-          | inl new ↦
-              subst (λ (k : ℕ). IsFirstFrom n V k q (a' k q)) (sym new)
-              (leads_nowhere n V a' b' t absent no_first no_last q (subst (λ (k : ℕ). IsNode n V k q) new node))
-        ];
+          elim (cases_eq v t) [
+            | inr old ↦
+                let less : v < t = omega (arith, old) in
+                subst (IsFirstFrom n V v q) (sym (a_stays v q less)) (links.leads v q less node)
+            | inl new ↦
+                subst (λ (k : ℕ). IsFirstFrom n V k q (a' k q)) (sym new)
+                (leads_nowhere n V a' b' t absent no_first no_last q (subst (λ (k : ℕ). IsNode n V k q) new node))
+          ];
       back = λ v s known stop.
-        elim (cases_eq v t) [
-          | inr old ↦
-              let less : v < t = omega (arith, old) in
-              let at = links.back v s less stop in
-              subst (λ (q : ℕ). IsNode n V v q × (a' v q ≡ s)) (sym (b_stays v s less)) (at.0, a_stays v (b v s) less ∙ at.1)
-          | inl new ↦
-              subst (λ (k : ℕ). IsNode n V k (b' k s) × (a' k (b' k s) ≡ s)) (sym new)
-              (back_from_end n V a' b' t absent no_first no_last s (subst (λ (k : ℕ). IsStop n V k s) new stop))
-        ];
+          elim (cases_eq v t) [
+            | inr old ↦
+                let less : v < t = omega (arith, old) in
+                let at = links.back v s less stop in
+                subst (λ (q : ℕ). IsNode n V v q × (a' v q ≡ s)) (sym (b_stays v s less)) (at.0, a_stays v (b v s) less ∙ at.1)
+            | inl new ↦
+                subst (λ (k : ℕ). IsNode n V k (b' k s) × (a' k (b' k s) ≡ s)) (sym new)
+                (back_from_end n V a' b' t absent no_first no_last s (subst (λ (k : ℕ). IsStop n V k s) new stop))
+          ];
     }
   where
     absent : (z : ℕ) → z < n → V z ≢ t

@@ -1,5 +1,5 @@
 -- Threads as a column keeps them, in lists.
-use Rattle.std.proofs.Common.{◌≡◌, ℕ, ◌+◌, ◌-◌, ◌<◌, ◌≤◌, List, [], ◌∷◌, ◌++◌, length, length-append, get_or, set, replicate, refl, sym, ap, ◌∙◌, inl, inr, subst, arith, eqb, eq-eqb, ne_eqb, cond, length-set, get_or-set_other, get_or-set_same}
+use Rattle.std.proofs.Common.{◌≡◌, ℕ, ◌+◌, ◌-◌, ◌<◌, ◌≤◌, List, [], ◌∷◌, ◌++◌, length, length-append, get_or, set, replicate, refl, sym, ap, ◌∙◌, inl, inr, subst, arith, eq-eqb, ne_eqb, length-set, get_or-set_other, get_or-set_same}
 use Rattle.std.specs.Prelude.{◌≢◌}
 use Rattle.std.proofs.lemmas.Bool.{cases_eq}
 use Rattle.std.proofs.lemmas.List.{get_or_append_left, get_or-append_right, length-replicate, get_or-replicate}
@@ -36,9 +36,9 @@ same_first : (n : ℕ) (V : ℕ → ℕ) (v from s s' : ℕ) → n ≤ nothing �
 same_first n V v from s s' few first second =
     elim (cases_eq s nothing) [
       | inl none ↦ elim (cases_eq s' nothing) [
-          | inl none' ↦ none ∙ sym none'
-          | inr some' ↦ let at = second.there some' in let far : s ≤ s' = first.least s' at.0 at.1 at.2 in omega (arith, none, at.1, far)
-        ]
+        | inl none' ↦ none ∙ sym none'
+        | inr some' ↦ let at = second.there some' in let far : s ≤ s' = first.least s' at.0 at.1 at.2 in omega (arith, none, at.1, far)
+      ]
       | inr some ↦
           let at = first.there some in
           let far : s' ≤ s = second.least s at.0 at.1 at.2 in
@@ -68,8 +68,8 @@ module _ (V N P F L : List ℕ) (threaded : IsThreaded V N P F L) (x : ℕ) (wit
   pub stop_within : get_or N x 0 ≢ nothing → get_or N x 0 < length P
   stop_within more =
       let first : IsFirstFrom (length V) (λ z. get_or V z 0) (get_or V x 0) (x + 1) (get_or N x 0) =
-        subst (IsFirstFrom (length V) (λ z. get_or V z 0) (get_or V x 0) (x + 1)) (after_place N F (get_or V x 0) x)
-        (threaded.links.leads (get_or V x 0) (x + 1) known (λ place e. let same : x ≡ place = omega arith in (omega arith, ap (λ z. get_or V z 0) (sym same)))) in
+      subst (IsFirstFrom (length V) (λ z. get_or V z 0) (get_or V x 0) (x + 1)) (after_place N F (get_or V x 0) x)
+      (threaded.links.leads (get_or V x 0) (x + 1) known (λ place e. let same : x ≡ place = omega arith in (omega arith, ap (λ z. get_or V z 0) (sym same)))) in
       omega (arith, (first.there more).1, threaded.previouses)
 
   -- the lists once the place is taken out of its thread
@@ -82,9 +82,9 @@ module _ (V N P F L : List ℕ) (threaded : IsThreaded V N P F L) (x : ℕ) (wit
       let back_is : before P L v x ≡ p = before_place P L v x (omega arith) ∙ sym p_is in
       let after_is : after N F v (x + 1) ≡ y = after_place N F v x ∙ sym y_is in
       let links : AreLinks (length V) (length F) (λ z. get_or (set V x nothing) z 0) (after N' F') (before P' L') =
-        unlinked (length V) (length F) (λ z. get_or V z 0) (λ z. get_or (set V x nothing) z 0) x threaded.few threaded.few_targets within
-        (get_or-set_same V x nothing 0 within) (λ z apart. get_or-set_other V x z nothing 0 apart)
-        (after N F) (before P L) (after N' F') (before P' L') v p y threaded.links (subst (λ (k : ℕ). k < length F) (sym v_is) known) (sym v_is) back_is after_is led backed in
+      unlinked (length V) (length F) (λ z. get_or V z 0) (λ z. get_or (set V x nothing) z 0) x threaded.few threaded.few_targets within
+      (get_or-set_same V x nothing 0 within) (λ z apart. get_or-set_other V x z nothing 0 apart)
+      (after N F) (before P L) (after N' F') (before P' L') v p y threaded.links (subst (λ (k : ℕ). k < length F) (sym v_is) known) (sym v_is) back_is after_is led backed in
       record {
         few = rw long threaded.few;
         few_targets = rw f_long threaded.few_targets;
@@ -92,14 +92,14 @@ module _ (V N P F L : List ℕ) (threaded : IsThreaded V N P F L) (x : ℕ) (wit
         previouses = p_long ∙ threaded.previouses ∙ sym long;
         lasts = l_long ∙ threaded.lasts ∙ sym f_long;
         within = λ place in_range some.
-          elim (cases_eq place x) [
-            | inl here ↦ absurd (some (ap (λ z. get_or (set V x nothing) z 0) here ∙ get_or-set_same V x nothing 0 within))
-            | inr other ↦
-                let stays : get_or (set V x nothing) place 0 ≡ get_or V place 0 = get_or-set_other V x place nothing 0 other in
-                rw (stays, f_long) (threaded.within place (omega (arith, in_range, long)) (λ e. some (stays ∙ e)))
-          ];
+            elim (cases_eq place x) [
+              | inl here ↦ absurd (some (ap (λ z. get_or (set V x nothing) z 0) here ∙ get_or-set_same V x nothing 0 within))
+              | inr other ↦
+                  let stays : get_or (set V x nothing) place 0 ≡ get_or V place 0 = get_or-set_other V x place nothing 0 other in
+                  rw (stays, f_long) (threaded.within place (omega (arith, in_range, long)) (λ e. some (stays ∙ e)))
+            ];
         links = subst (λ (t : ℕ). AreLinks (length (set V x nothing)) t (λ z. get_or (set V x nothing) z 0) (after N' F') (before P' L')) (sym f_long)
-          (subst (λ (n : ℕ). AreLinks n (length F) (λ z. get_or (set V x nothing) z 0) (after N' F') (before P' L')) (sym long) links);
+            (subst (λ (n : ℕ). AreLinks n (length F) (λ z. get_or (set V x nothing) z 0) (after N' F') (before P' L')) (sym long) links);
       }
 
 -- ---- where a place stands among those of a number
@@ -133,7 +133,7 @@ module _ (V N P F L : List ℕ) (threaded : IsThreaded V N P F L) (x v : ℕ) (w
       let is_node : IsNode (length V) (λ z. get_or V z 0) v node' = subst (IsNode (length V) (λ z. get_or V z 0) v) last at.0 in
       let leads_w : after N F v node' ≡ w = subst (λ (q : ℕ). after N F v q ≡ w) last at.1 in
       let first : IsFirstFrom (length V) (λ z. get_or V z 0) v node' w =
-        subst (IsFirstFrom (length V) (λ z. get_or V z 0) v node') leads_w (threaded.links.leads v node' known is_node) in
+      subst (IsFirstFrom (length V) (λ z. get_or V z 0) v node') leads_w (threaded.links.leads v node' known is_node) in
       let apart : x ≢ w = λ e. omega (arith, sym here.1 ∙ subst (λ (z : ℕ). get_or V z 0 ≡ nothing) e free) in
       let far : node' ≤ w = (first.there (λ e. omega (arith, here.0, e))).0 in
       (record { is_node = is_node; leads = first; ahead = omega (arith, apart) }, omega (arith, far))
@@ -152,14 +152,14 @@ module _ (V N P F L : List ℕ) (threaded : IsThreaded V N P F L) (x v : ℕ) (w
       let x_next : x < length N = omega (arith, threaded.nexts) in
       let x_previous : x < length P = omega (arith, threaded.previouses) in
       let links : AreLinks (length V) (length F) (λ z. get_or (set V x v) z 0) (after N' F') (before P' L') =
-        linked (length V) (length F) (λ z. get_or V z 0) (λ z. get_or (set V x v) z 0) x v node stop threaded.few threaded.few_targets within known free
-        (get_or-set_same V x v 0 within) (λ z apart. get_or-set_other V x z v 0 apart) ahead.is_node ahead.leads gap.behind ahead.ahead
-        (after N F) (before P L) (after (set N x stop) F) (before (set P x node) L) (after N' F') (before P' L') threaded.links
-        (λ u. after_place (set N x stop) F u x ∙ get_or-set_same N x stop 0 x_next)
-        (λ u q apart. after_other N F u q x stop apart)
-        (λ u. before_place (set P x node) L u x (omega arith) ∙ get_or-set_same P x node 0 x_previous)
-        (λ u s apart. before_other P L u s x node apart)
-        leads_stop led backed in
+      linked (length V) (length F) (λ z. get_or V z 0) (λ z. get_or (set V x v) z 0) x v node stop threaded.few threaded.few_targets within known free
+      (get_or-set_same V x v 0 within) (λ z apart. get_or-set_other V x z v 0 apart) ahead.is_node ahead.leads gap.behind ahead.ahead
+      (after N F) (before P L) (after (set N x stop) F) (before (set P x node) L) (after N' F') (before P' L') threaded.links
+      (λ u. after_place (set N x stop) F u x ∙ get_or-set_same N x stop 0 x_next)
+      (λ u q apart. after_other N F u q x stop apart)
+      (λ u. before_place (set P x node) L u x (omega arith) ∙ get_or-set_same P x node 0 x_previous)
+      (λ u s apart. before_other P L u s x node apart)
+      leads_stop led backed in
       record {
         few = rw long threaded.few;
         few_targets = rw f_long threaded.few_targets;
@@ -167,16 +167,16 @@ module _ (V N P F L : List ℕ) (threaded : IsThreaded V N P F L) (x v : ℕ) (w
         previouses = p_long ∙ length-set P x node ∙ threaded.previouses ∙ sym long;
         lasts = l_long ∙ threaded.lasts ∙ sym f_long;
         within = λ place in_range some.
-          elim (cases_eq place x) [
-            | inl here ↦
-                let now : get_or (set V x v) place 0 ≡ v = ap (λ z. get_or (set V x v) z 0) here ∙ get_or-set_same V x v 0 within in
-                rw (now, f_long) known
-            | inr other ↦
-                let stays : get_or (set V x v) place 0 ≡ get_or V place 0 = get_or-set_other V x place v 0 other in
-                rw (stays, f_long) (threaded.within place (omega (arith, in_range, long)) (λ e. some (stays ∙ e)))
-          ];
+            elim (cases_eq place x) [
+              | inl here ↦
+                  let now : get_or (set V x v) place 0 ≡ v = ap (λ z. get_or (set V x v) z 0) here ∙ get_or-set_same V x v 0 within in
+                  rw (now, f_long) known
+              | inr other ↦
+                  let stays : get_or (set V x v) place 0 ≡ get_or V place 0 = get_or-set_other V x place v 0 other in
+                  rw (stays, f_long) (threaded.within place (omega (arith, in_range, long)) (λ e. some (stays ∙ e)))
+            ];
         links = subst (λ (t : ℕ). AreLinks (length (set V x v)) t (λ z. get_or (set V x v) z 0) (after N' F') (before P' L')) (sym f_long)
-          (subst (λ (n : ℕ). AreLinks n (length F) (λ z. get_or (set V x v) z 0) (after N' F') (before P' L')) (sym long) links);
+            (subst (λ (n : ℕ). AreLinks n (length F) (λ z. get_or (set V x v) z 0) (after N' F') (before P' L')) (sym long) links);
       }
 
 -- ---- walks
@@ -198,7 +198,7 @@ thread_new n t few few_targets =
     let places : length (replicate n nothing) ≡ n = length-replicate n nothing in
     let targets : length (replicate t nothing) ≡ t = length-replicate t nothing in
     let free : (z : ℕ) → z < length (replicate n nothing) → get_or (replicate n nothing) z 0 ≡ nothing =
-      λ z in_range. get_or-replicate n z nothing 0 (omega (arith, in_range, places)) in
+    λ z in_range. get_or-replicate n z nothing 0 (omega (arith, in_range, places)) in
     record {
       few = omega (arith, places, few);
       few_targets = omega (arith, targets, few_targets);
@@ -207,9 +207,9 @@ thread_new n t few few_targets =
       lasts = length-replicate t 0 ∙ sym targets;
       within = λ place in_range some. absurd (some (free place in_range));
       links = unlinked_all (length (replicate n nothing)) (length (replicate t nothing)) (λ z. get_or (replicate n nothing) z 0)
-        (after (replicate n nothing) (replicate t nothing)) (before (replicate n 0) (replicate t 0)) (omega (arith, targets, few_targets)) free
-        (λ v known. get_or-replicate t v nothing 0 (omega (arith, known, targets)))
-        (λ v known. get_or-replicate t v 0 0 (omega (arith, known, targets)));
+          (after (replicate n nothing) (replicate t nothing)) (before (replicate n 0) (replicate t 0)) (omega (arith, targets, few_targets)) free
+          (λ v known. get_or-replicate t v nothing 0 (omega (arith, known, targets)))
+          (λ v known. get_or-replicate t v 0 0 (omega (arith, known, targets)));
     }
 
 -- ---- a place more, and a number more
@@ -235,14 +235,14 @@ thread_grown V N P F L threaded few =
       previouses = omega (arith, longer V nothing, longer P 0);
       lasts = threaded.lasts;
       within = λ place in_range some.
-        elim (cases_eq place (length V)) [
-          | inl last ↦ absurd (some (ap (λ z. get_or (V ++ nothing ∷ []) z 0) last ∙ put_last V nothing))
-          | inr before ↦
-              let less : place < length V = omega (arith, in_range, longer V nothing, before) in
-              rw (stays_before V nothing place less) (threaded.within place less (λ e. some (stays_before V nothing place less ∙ e)))
-        ];
+          elim (cases_eq place (length V)) [
+            | inl last ↦ absurd (some (ap (λ z. get_or (V ++ nothing ∷ []) z 0) last ∙ put_last V nothing))
+            | inr before ↦
+                let less : place < length V = omega (arith, in_range, longer V nothing, before) in
+                rw (stays_before V nothing place less) (threaded.within place less (λ e. some (stays_before V nothing place less ∙ e)))
+          ];
       links = subst (λ (n : ℕ). AreLinks n (length F) (λ z. get_or (V ++ nothing ∷ []) z 0) (after (N ++ nothing ∷ []) F) (before (P ++ 0 ∷ []) L)) (sym (longer V nothing))
-        (grown (length V) (length F) (λ z. get_or V z 0) (λ z. get_or (V ++ nothing ∷ []) z 0) (after N F) (before P L) (after (N ++ nothing ∷ []) F) (before (P ++ 0 ∷ []) L)
+          (grown (length V) (length F) (λ z. get_or V z 0) (λ z. get_or (V ++ nothing ∷ []) z 0) (after N F) (before P L) (after (N ++ nothing ∷ []) F) (before (P ++ 0 ∷ []) L)
           threaded.few_targets threaded.links (put_last V nothing) (λ z less. stays_before V nothing z less)
           (λ v q node. elim (cases_eq q 0) [
             | inl head ↦ rw (eq-eqb q 0 head) refl
@@ -265,7 +265,7 @@ thread_widened V N P F L threaded few =
       lasts = omega (arith, longer F nothing, longer L 0);
       within = λ place in_range some. omega (arith, longer F nothing, threaded.within place in_range some);
       links = subst (λ (t : ℕ). AreLinks (length V) t (λ z. get_or V z 0) (after N (F ++ nothing ∷ [])) (before P (L ++ 0 ∷ []))) (sym (longer F nothing))
-        (widened (length V) (length F) (λ z. get_or V z 0) (after N F) (before P L) (after N (F ++ nothing ∷ [])) (before P (L ++ 0 ∷ []))
+          (widened (length V) (length F) (λ z. get_or V z 0) (after N F) (before P L) (after N (F ++ nothing ∷ [])) (before P (L ++ 0 ∷ []))
           threaded.few threaded.links threaded.within few
           (λ v q known. elim (cases_eq q 0) [
             | inl head ↦ rw (eq-eqb q 0 head) (stays_before F nothing v known)

@@ -1,5 +1,5 @@
 -- The places of a number from one on, by the first of them.
-use Rattle.std.proofs.Common.{◌≡◌, ℕ, suc, zero, ◌+◌, ◌-◌, ◌<◌, ◌≤◌, Bool, true, false, List, [], ◌∷◌, length, filter, cond, refl, sym, ap, ◌∙◌, inl, inr, subst, arith, get_or, eqb, eq-eqb, ne_eqb}
+use Rattle.std.proofs.Common.{◌≡◌, ℕ, suc, zero, ◌+◌, ◌-◌, ◌<◌, ◌≤◌, Bool, true, false, List, [], ◌∷◌, length, filter, refl, sym, ap, ◌∙◌, inl, inr, subst, arith, get_or, eqb, eq-eqb, ne_eqb}
 use Rattle.std.specs.Prelude.{◌≢◌}
 use Rattle.std.specs.List.{range_with_len}
 use Rattle.std.proofs.lemmas.Bool.{cases_eq}
@@ -58,7 +58,7 @@ module _ (values : List ℕ) (value : ℕ) (few : length values ≤ nothing) whe
       elim (cases_eq s nothing) [
         | inl none ↦
             let from_nothing : IsFirstFrom (length values) (λ z. get_or values z 0) value nothing nothing =
-              record { least = λ place above within is. above; there = λ some. absurd (some refl) } in
+            record { least = λ place above within is. above; there = λ some. absurd (some refl) } in
             ap (places_from values value) none ∙ walked values value nothing few from_nothing
             ∙ sym (walked values value from few (subst (IsFirstFrom (length values) (λ z. get_or values z 0) value from) none first))
         | inr some ↦

@@ -6,6 +6,8 @@
 #![tactic(auto)]
 
 mod column;
+#[cfg(test)]
+mod tests;
 mod walk;
 
 pub use column::Column;

@@ -1,4 +1,3 @@
-use Rattle.std.proofs.Common.{◌∙◌, sym, subst, ap, length, ◌<◌, ◌+◌, ℕ, get_or, rules}
 use Rattle.rw_column.proofs.Threads.{ahead_first, ahead_within, ahead_next}
 use Rattle.rw_column.proofs.column.gap.Goals as goal
 

@@ -1,4 +1,4 @@
-use Rattle.std.proofs.Common.{ℕ, length, get_or}
+use Rattle.std.proofs.Common.{length, get_or}
 use Rattle.rw_column.specs.inner.Links.{IsAhead}
 use Rattle.rw_column.proofs.column.gap.Given as goal
 
