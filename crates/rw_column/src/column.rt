@@ -148,6 +148,7 @@ impl Column {
     }
 
     /// The first place that has the number, or nothing.
+    #[tactic(auto, using(crate::proofs::Threads::first_of))]
     pub(crate) fn first(&self, value: u32) -> u32
         requires { value < self.now.targets }
         ensures first { IsFirstFrom (length self.now.values) (slice_index self.now.values) value 0 result }
@@ -157,6 +158,7 @@ impl Column {
     }
 
     /// The next place behind this one that has the same number, or nothing.
+    #[tactic(auto, using(crate::proofs::Threads::next_of))]
     pub(crate) fn next(&self, place: u32) -> u32
         requires place { place < length self.now.values }
         requires value { slice_index self.now.values place < self.now.targets }

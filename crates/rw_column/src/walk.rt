@@ -33,6 +33,7 @@ impl<'a> Model for Walk<'a> {
 
 impl<'a> Walk<'a> {
     /// The walk over all places that have the number. It takes constant time, and no step is counted.
+    #[tactic(auto, using(crate::proofs::Walks::skipped))]
     pub fn new(column: &'a Column, value: u32) -> Walk<'a>
         requires { value < column.now.targets }
         ensures { result ≡ places_from column.now.values value 0 }
@@ -46,6 +47,7 @@ impl<'a> Walk<'a> {
 
     /// The next place, or nothing at the end, and then at each further call. It takes constant time and counts one
     /// step, also at the end: so a whole walk counts one step more than it has places.
+    #[tactic(auto, using(crate::proofs::Walks::stepped))]
     pub fn next<L: Ledger>(&mut self, steps: &mut Steps<L>) -> Option<u32>
         ensures gives { MatchOption result ((self.old ≡ []) × (self.new ≡ [])) (λ place. self.old ≡ place ∷ self.new) }
         ensures ticks { steps.new ≡ steps.old + 1 }
