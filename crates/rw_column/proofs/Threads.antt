@@ -121,8 +121,9 @@ module _ (V N P F L : List ℕ) (threaded : IsThreaded V N P F L) (x v : ℕ) (w
   pub ahead_within : (node stop : ℕ) → IsAhead (length V) (λ z. get_or V z 0) v x node stop → x < node → node - 1 < length P
   ahead_within node stop ahead more = omega (arith, threaded.previouses, (ahead.is_node (node - 1) (omega arith)).0)
 
+  -- a place ahead of a node's stop and before the node is ahead of the stop that the node is
   pub ahead_next : (node stop node' : ℕ) → IsAhead (length V) (λ z. get_or V z 0) v x node stop → x < node → node' ≡ get_or P (node - 1) 0
-      → IsAhead (length V) (λ z. get_or V z 0) v x node' (node - 1) × (node' < node)
+      → IsAhead (length V) (λ z. get_or V z 0) v x node' (node - 1)
   ahead_next node stop node' ahead more is =
       let few = threaded.few in
       let few_targets = threaded.few_targets in
@@ -132,11 +133,20 @@ module _ (V N P F L : List ℕ) (threaded : IsThreaded V N P F L) (x v : ℕ) (w
       let last : before P L v w ≡ node' = before_place P L v w (omega (arith, here.0)) ∙ sym is in
       let is_node : IsNode (length V) (λ z. get_or V z 0) v node' = subst (IsNode (length V) (λ z. get_or V z 0) v) last at.0 in
       let leads_w : after N F v node' ≡ w = subst (λ (q : ℕ). after N F v q ≡ w) last at.1 in
-      let first : IsFirstFrom (length V) (λ z. get_or V z 0) v node' w =
-      subst (IsFirstFrom (length V) (λ z. get_or V z 0) v node') leads_w (threaded.links.leads v node' known is_node) in
       let apart : x ≢ w = λ e. omega (arith, sym here.1 ∙ subst (λ (z : ℕ). get_or V z 0 ≡ nothing) e free) in
-      let far : node' ≤ w = (first.there (λ e. omega (arith, here.0, e))).0 in
-      (record { is_node = is_node; leads = first; ahead = omega (arith, apart) }, omega (arith, far))
+      record {
+        is_node = is_node;
+        leads = subst (IsFirstFrom (length V) (λ z. get_or V z 0) v node') leads_w (threaded.links.leads v node' known is_node);
+        ahead = omega (arith, apart);
+      }
+
+  -- the node before a place is less than the place's own
+  pub ahead_less : (node stop node' : ℕ) → IsAhead (length V) (λ z. get_or V z 0) v x node stop → x < node → node' ≡ get_or P (node - 1) 0 → node' < node
+  ahead_less node stop node' ahead more is =
+      let few = threaded.few in
+      let here : node - 1 < length V = (ahead.is_node (node - 1) (omega arith)).0 in
+      let behind : node' ≤ node - 1 = ((ahead_next node stop node' ahead more is).leads.there (λ e. omega (arith, here, e))).0 in
+      omega (arith, behind)
 
   -- the lists once the place is put into the thread
   pub thread_linked : (node stop : ℕ) → IsGap (length V) (λ z. get_or V z 0) v x node stop → (N' P' F' L' : List ℕ)
