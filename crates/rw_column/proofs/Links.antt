@@ -1,4 +1,8 @@
--- What a place that is taken out of its thread, or put into one, does to the links.
+-- What a place that is taken out of its thread, put into one, or added does to the links.
+--
+-- Throughout there are n places and t numbers, V is the number at a place, and a and b are `after` and `before`; V', a'
+-- and b' are the same afterwards. The place that changes is x, its number v, the node before it p and the stop behind
+-- it y; u, q, s and z are any number, node, stop and place.
 use Rattle.std.proofs.Common.{◌≡◌, ℕ, ◌+◌, ◌-◌, ◌<◌, ◌≤◌, refl, sym, ◌∙◌, inl, inr, subst, arith}
 use Rattle.std.specs.Prelude.{◌≢◌}
 use Rattle.std.proofs.lemmas.Bool.{cases_eq, cases_order}
@@ -52,6 +56,8 @@ elsewhere_back n V b b' v p y u s backed stop other apart =
       ]
     ]
 
+-- ---- taking a place out
+
 module _ (n t : ℕ) (V V' : ℕ → ℕ) (x : ℕ) (few : n ≤ nothing) (few_targets : t ≤ nothing) (within : x < n)
     (gone : V' x ≡ nothing) (others : (z : ℕ) → z ≢ x → V' z ≡ V z) where
   -- a place that is left with a number had it before
@@ -60,24 +66,26 @@ module _ (n t : ℕ) (V V' : ℕ → ℕ) (x : ℕ) (few : n ≤ nothing) (few_t
       let apart : z ≢ x = λ e. omega (arith, sym is ∙ subst (λ (k : ℕ). V' k ≡ nothing) (sym e) gone) in
       (apart, sym (others z apart) ∙ is)
 
+  -- a node afterwards was a node before, and is not that of the place taken out
   node_before : (u q : ℕ) → u < t → IsNode n V' u q → IsNode n V u q × (q ≢ x + 1)
   node_before u q known node = (
     λ place is. ((node place is).0, (had u place known (node place is).1).1),
     λ e. (had u x known (node x e).1).0 refl,
   )
 
+  -- each other node is left
   node_after : (u q : ℕ) → IsNode n V u q → q ≢ x + 1 → IsNode n V' u q
   node_after u q node apart place is =
       ((node place is).0, others place (λ e. apart (is ∙ subst (λ (k : ℕ). place + 1 ≡ k + 1) e refl)) ∙ (node place is).1)
 
+  -- each other stop stays the first from where it was
   first_after : (u q s : ℕ) → u < t → s ≢ x → IsFirstFrom n V u q s → IsFirstFrom n V' u q s
   first_after u q s known apart first = record {
     least = λ z from in_range is. first.least z from in_range (had u z known is).1;
     there = λ some. let at = first.there some in (at.0, at.1, others s apart ∙ at.2);
   }
 
-  -- ---- taking a place out
-
+  -- each node leads to the first place behind it once x is out
   first_unlinked : (a b a' : ℕ → ℕ → ℕ) (v p y : ℕ) → AreLinks n t V a b → v < t → V x ≡ v → IsNode n V v p → a v p ≡ x → IsFirstFrom n V v (x + 1) y
       → IsLed a a' v p y → (u q : ℕ) → u < t → IsNode n V' u q → IsFirstFrom n V' u q (a' u q)
   first_unlinked a b a' v p y links known is node leads rest led u q in_range q_node =
@@ -114,6 +122,7 @@ module _ (n t : ℕ) (V V' : ℕ → ℕ) (x : ℕ) (few : n ≤ nothing) (few_t
         ]
       ]
 
+  -- each stop knows the node that leads to it once x is out
   back_unlinked : (a b a' b' : ℕ → ℕ → ℕ) (v p y : ℕ) → AreLinks n t V a b → v < t → V x ≡ v → IsNode n V v p → a v p ≡ x → a v (x + 1) ≡ y
       → IsLed a a' v p y → IsBacked b b' v y p → (u s : ℕ) → u < t → IsStop n V' u s → IsNode n V' u (b' u s) × (a' u (b' u s) ≡ s)
   back_unlinked a b a' b' v p y links known is node leads rest led backed u s in_range stop =
@@ -161,7 +170,7 @@ module _ (n t : ℕ) (V V' : ℕ → ℕ) (x : ℕ) (few : n ≤ nothing) (few_t
         back = back_unlinked a b a' b' v p y links known is node leads rest led backed;
       }
 
--- ---- putting a place in: what holds of the place alone stands first, and then the nodes beside it are led to it
+-- ---- putting a place in: first V alone is changed, then x has its own links (a₁ and b₁), then p and y are led to x
 
 module _ (n t : ℕ) (V V' : ℕ → ℕ) (x v p y : ℕ) (few : n ≤ nothing) (few_targets : t ≤ nothing) (within : x < n) (known : v < t)
     (free : V x ≡ nothing) (put : V' x ≡ v) (others : (z : ℕ) → z ≢ x → V' z ≡ V z)
@@ -170,16 +179,20 @@ module _ (n t : ℕ) (V V' : ℕ → ℕ) (x v p y : ℕ) (few : n ≤ nothing) 
   not_x : (u z : ℕ) → u < t → V z ≡ u → z ≢ x
   not_x u z in_range is e = omega (arith, sym is ∙ subst (λ (k : ℕ). V k ≡ nothing) (sym e) free)
 
+  -- each node is still one once x is put in
   node_more : (u q : ℕ) → u < t → IsNode n V u q → IsNode n V' u q
   node_more u q in_range old place is = ((old place is).0, others place (not_x u place in_range (old place is).1) ∙ (old place is).1)
 
+  -- each node but that of x was one before
   node_less : (u q : ℕ) → q ≢ x + 1 → IsNode n V' u q → IsNode n V u q
   node_less u q apart new place is =
       ((new place is).0, sym (others place (λ e. apart (is ∙ subst (λ (k : ℕ). place + 1 ≡ k + 1) e refl))) ∙ (new place is).1)
 
+  -- no node was that of x
   not_behind : (u q : ℕ) → u < t → IsNode n V u q → q ≢ x + 1
   not_behind u q in_range old e = not_x u x in_range (old x e).1 refl
 
+  -- the stop behind x is one of v
   y_stop : IsStop n V v y
   y_stop some = let at = p_first.there some in (at.1, at.2)
 
@@ -187,15 +200,19 @@ module _ (n t : ℕ) (V V' : ℕ → ℕ) (x v p y : ℕ) (few : n ≤ nothing) 
       (a_here : (u : ℕ) → a₁ u (x + 1) ≡ y) (a_others : (u q : ℕ) → q ≢ x + 1 → a₁ u q ≡ a u q)
       (b_here : (u : ℕ) → b₁ u x ≡ p) (b_others : (u s : ℕ) → s ≢ x → b₁ u s ≡ b u s)
       (leads : a v p ≡ y) (led : IsLed a₁ a' v p x) (backed : IsBacked b₁ b' v y (x + 1)) where
+    -- x leads to the stop behind it
     leads_on : (u : ℕ) → a' u (x + 1) ≡ y
     leads_on u = led.others u (x + 1) (λ e. omega (arith, e, before_x)) ∙ a_here u
 
+    -- a node that is neither the one before x nor that of x leads where it led
     stays : (u q : ℕ) → q ≢ p → q ≢ x + 1 → a' u q ≡ a u q
     stays u q apart apart_x = led.others u q apart ∙ a_others u q apart_x
 
+    -- a node of another number leads where it led
     stays_elsewhere : (u q : ℕ) → u < t → IsNode n V u q → u ≢ v → a' u q ≡ a u q
     stays_elsewhere u q in_range old apart = elsewhere n V a₁ a' v p x u q led node old apart ∙ a_others u q (not_behind u q in_range old)
 
+    -- each older node of v leads to the first place behind it once x is in
     first_here : (q : ℕ) → IsNode n V v q → IsFirstFrom n V' v q (a' v q)
     first_here q old =
         elim (cases_eq q p) [
@@ -229,6 +246,7 @@ module _ (n t : ℕ) (V V' : ℕ → ℕ) (x v p y : ℕ) (few : n ≤ nothing) 
               })
         ]
 
+    -- each node leads to the first place behind it once x is in
     first_linked : (u q : ℕ) → u < t → IsNode n V' u q → IsFirstFrom n V' u q (a' u q)
     first_linked u q in_range new =
         elim (cases_eq q (x + 1)) [
@@ -254,6 +272,7 @@ module _ (n t : ℕ) (V V' : ℕ → ℕ) (x v p y : ℕ) (few : n ≤ nothing) 
               ]
         ]
 
+    -- each stop knows the node that leads to it once x is in
     back_linked : (u s : ℕ) → u < t → IsStop n V' u s → IsNode n V' u (b' u s) × (a' u (b' u s) ≡ s)
     back_linked u s in_range new =
         elim (cases_eq s x) [
@@ -290,8 +309,7 @@ module _ (n t : ℕ) (V V' : ℕ → ℕ) (x v p y : ℕ) (few : n ≤ nothing) 
     pub linked : AreLinks n t V' a' b'
     linked = record { leads = first_linked; back = back_linked }
 
--- ---- a place more, which has no number
-
+-- a place more, which has no number
 pub grown : (n t : ℕ) (V V' : ℕ → ℕ) (a b a' b' : ℕ → ℕ → ℕ) → t ≤ nothing → AreLinks n t V a b → V' n ≡ nothing → ((z : ℕ) → z < n → V' z ≡ V z)
     → ((v q : ℕ) → IsNode n V v q → a' v q ≡ a v q) → ((v s : ℕ) → IsStop n V v s → b' v s ≡ b v s) → AreLinks (n + 1) t V' a' b'
 grown n t V V' a b a' b' few_targets links none others a_stays b_stays =
@@ -312,6 +330,7 @@ grown n t V V' a b a' b' few_targets links none others a_stays b_stays =
           ((λ place is. let here = at.0 place is in (omega (arith, here.0), others place here.0 ∙ here.1)), a_stays v (b v s) at.0 ∙ at.1);
     }
   where
+    -- a place that has a number was there before
     old_place : (v z : ℕ) → v < t → z < n + 1 → V' z ≡ v → (z < n) × (V z ≡ v)
     old_place v z known in_range is =
         elim (cases_eq z n) [
@@ -319,79 +338,44 @@ grown n t V V' a b a' b' few_targets links none others a_stays b_stays =
           | inr before ↦ let less : z < n = omega (arith, before) in (less, sym (others z less) ∙ is)
         ]
 
+    -- a node was one before
     node_back : (v q : ℕ) → v < t → IsNode (n + 1) V' v q → IsNode n V v q
     node_back v q known new place is = let at = new place is in old_place v place known at.0 at.1
-
--- ---- a number that stands at no place: it has node 0 alone, which leads to nothing
-
-module _ (n : ℕ) (V : ℕ → ℕ) (a b : ℕ → ℕ → ℕ) (v : ℕ) (absent : (z : ℕ) → z < n → V z ≢ v) (no_first : a v 0 ≡ nothing) (no_last : b v nothing ≡ 0) where
-  -- the number's node is node 0
-  only_node : (q : ℕ) → IsNode n V v q → q ≡ 0
-  only_node q node = elim (cases_eq q 0) [
-    | inl head ↦ head
-    | inr place ↦ let at = node (q - 1) (omega (arith, place)) in absurd (absent (q - 1) at.0 at.1)
-  ]
-
-  -- the number's stop is nothing
-  only_stop : (s : ℕ) → IsStop n V v s → s ≡ nothing
-  only_stop s stop = elim (cases_eq s nothing) [
-    | inl end ↦ end
-    | inr some ↦ let at = stop some in absurd (absent s at.0 at.1)
-  ]
-
-  -- no place is behind the node
-  leads_nowhere : (q : ℕ) → IsNode n V v q → IsFirstFrom n V v q (a v q)
-  leads_nowhere q node =
-      let ends : a v q ≡ nothing = subst (λ (k : ℕ). a v k ≡ nothing) (sym (only_node q node)) no_first in
-      subst (IsFirstFrom n V v q) (sym ends) (record {
-        least = λ z from in_range is. absurd (absent z in_range is);
-        there = λ some. absurd (some refl);
-      })
-
-  -- the end is led to by node 0
-  back_from_end : (s : ℕ) → IsStop n V v s → IsNode n V v (b v s) × (a v (b v s) ≡ s)
-  back_from_end s stop =
-      let ends : s ≡ nothing = only_stop s stop in
-      let head : b v s ≡ 0 = subst (λ (k : ℕ). b v k ≡ 0) (sym ends) no_last in
-      subst (λ (q : ℕ). IsNode n V v q × (a v q ≡ s)) (sym head) ((λ place is. absurd (omega (arith, is))), no_first ∙ sym ends)
-
--- no number stands at a place
-pub unlinked_all : (n t : ℕ) (V : ℕ → ℕ) (a b : ℕ → ℕ → ℕ) → t ≤ nothing → ((z : ℕ) → z < n → V z ≡ nothing)
-    → ((v : ℕ) → v < t → a v 0 ≡ nothing) → ((v : ℕ) → v < t → b v nothing ≡ 0) → AreLinks n t V a b
-unlinked_all n t V a b few_targets free no_first no_last =
-    record {
-      leads = λ v q known node. leads_nowhere n V a b v (absent v known) (no_first v known) (no_last v known) q node;
-      back = λ v s known stop. back_from_end n V a b v (absent v known) (no_first v known) (no_last v known) s stop;
-    }
-  where
-    absent : (v : ℕ) → v < t → (z : ℕ) → z < n → V z ≢ v
-    absent v known z in_range is = omega (arith, sym is ∙ free z in_range)
 
 -- a number more, which stands at no place
 pub widened : (n t : ℕ) (V : ℕ → ℕ) (a b a' b' : ℕ → ℕ → ℕ) → n ≤ nothing → AreLinks n t V a b → ((z : ℕ) → z < n → V z ≢ nothing → V z < t) → t < nothing
     → ((v q : ℕ) → v < t → a' v q ≡ a v q) → ((v s : ℕ) → v < t → b' v s ≡ b v s) → a' t 0 ≡ nothing → b' t nothing ≡ 0 → AreLinks n (t + 1) V a' b'
-widened n t V a b a' b' few links within few_targets a_stays b_stays no_first no_last =
+widened n t V a b a' b' few links within few_targets a_stays b_stays a_none b_none =
     record {
       leads = λ v q known node.
-          elim (cases_eq v t) [
-            | inr old ↦
-                let less : v < t = omega (arith, old) in
-                subst (IsFirstFrom n V v q) (sym (a_stays v q less)) (links.leads v q less node)
-            | inl new ↦
-                subst (λ (k : ℕ). IsFirstFrom n V k q (a' k q)) (sym new)
-                (leads_nowhere n V a' b' t absent no_first no_last q (subst (λ (k : ℕ). IsNode n V k q) new node))
-          ];
+        elim (cases_eq v t) [
+          | inr old ↦
+              let less : v < t = omega (arith, old) in
+              subst (IsFirstFrom n V v q) (sym (a_stays v q less)) (links.leads v q less node)
+          | inl new ↦
+              let none : (z : ℕ) → z < n → V z ≡ v → ⊥ =
+                λ z in_range is. omega (arith, is, new, within z in_range (λ e. omega (arith, is, new, e))) in
+              let zero : q ≡ 0 = elim (cases_eq q 0) [ inl e ↦ e | inr more ↦ let at = node (q - 1) (omega (arith, more)) in absurd (none (q - 1) at.0 at.1) ] in
+              let stops : a' v q ≡ nothing = subst (λ (k : ℕ). a' k q ≡ nothing) (sym new) (subst (λ (k : ℕ). a' t k ≡ nothing) (sym zero) a_none) in
+              subst (IsFirstFrom n V v q) (sym stops) (record {
+                least = λ z from in_range is. absurd (none z in_range is);
+                there = λ some. absurd (some refl);
+              })
+        ];
       back = λ v s known stop.
-          elim (cases_eq v t) [
-            | inr old ↦
-                let less : v < t = omega (arith, old) in
-                let at = links.back v s less stop in
-                subst (λ (q : ℕ). IsNode n V v q × (a' v q ≡ s)) (sym (b_stays v s less)) (at.0, a_stays v (b v s) less ∙ at.1)
-            | inl new ↦
-                subst (λ (k : ℕ). IsNode n V k (b' k s) × (a' k (b' k s) ≡ s)) (sym new)
-                (back_from_end n V a' b' t absent no_first no_last s (subst (λ (k : ℕ). IsStop n V k s) new stop))
-          ];
+        elim (cases_eq v t) [
+          | inr old ↦
+              let less : v < t = omega (arith, old) in
+              let at = links.back v s less stop in
+              subst (λ (q : ℕ). IsNode n V v q × (a' v q ≡ s)) (sym (b_stays v s less)) (at.0, a_stays v (b v s) less ∙ at.1)
+          | inl new ↦
+              let ends : s ≡ nothing = elim (cases_eq s nothing) [
+                | inl e ↦ e
+                | inr some ↦ let at = stop some in
+                    absurd (omega (arith, at.1, new, within s at.0 (λ e. omega (arith, at.1, new, e))))
+              ] in
+              let zero : b' v s ≡ 0 = subst (λ (k : ℕ). b' k s ≡ 0) (sym new) (subst (λ (k : ℕ). b' t k ≡ 0) (sym ends) b_none) in
+              subst (λ (q : ℕ). IsNode n V v q × (a' v q ≡ s)) (sym zero)
+              ((λ place is. absurd (omega (arith, is))), subst (λ (k : ℕ). a' k 0 ≡ s) (sym new) (a_none ∙ sym ends))
+        ];
     }
-  where
-    absent : (z : ℕ) → z < n → V z ≢ t
-    absent z in_range is = omega (arith, is, within z in_range (λ e. omega (arith, is, e)))

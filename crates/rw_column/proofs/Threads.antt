@@ -1,12 +1,13 @@
--- Threads as a column keeps them, in lists.
-use Rattle.std.proofs.Common.{◌≡◌, ℕ, ◌+◌, ◌-◌, ◌<◌, ◌≤◌, List, [], ◌∷◌, ◌++◌, length, length-append, get_or, set, replicate, refl, sym, ap, ◌∙◌, inl, inr, subst, arith, eq-eqb, ne_eqb, length-set, get_or-set_other, get_or-set_same}
+-- Threads as a column keeps them, in lists: V the values, N and P the next and the previous ones, F and L the first and
+-- the last ones. What changes at one place is proved of links in general (Links), and brought to the lists here.
+use Rattle.std.proofs.Common.{◌≡◌, ℕ, ◌+◌, ◌-◌, ◌<◌, ◌≤◌, List, [], ◌∷◌, ◌++◌, length, length-append, get_or, set, refl, sym, ap, ◌∙◌, inl, inr, subst, arith, eq-eqb, ne_eqb, length-set, get_or-set_other, get_or-set_same}
 use Rattle.std.specs.Prelude.{◌≢◌}
 use Rattle.std.proofs.lemmas.Bool.{cases_eq}
-use Rattle.std.proofs.lemmas.List.{get_or_append_left, get_or-append_right, length-replicate, get_or-replicate}
+use Rattle.std.proofs.lemmas.List.{get_or_append_left, get_or-append_right}
 use Rattle.rw_column.specs.Threads.{nothing}
 use Rattle.rw_column.specs.inner.Links.{IsNode, IsFirstFrom, AreLinks, IsLed, IsBacked, IsAhead, IsGap}
 use Rattle.rw_column.specs.inner.Threads.{IsThreaded, after, before}
-use Rattle.rw_column.proofs.Links.{unlinked, linked, unlinked_all, grown, widened}
+use Rattle.rw_column.proofs.Links.{unlinked, linked, grown, widened}
 
 -- what follows a place
 after_place : (N F : List ℕ) (v x : ℕ) → after N F v (x + 1) ≡ get_or N x 0
@@ -16,7 +17,7 @@ after_place N F v x = let e : x + 1 - 1 ≡ x = omega arith in rw (ne_eqb (x + 1
 before_place : (P L : List ℕ) (v x : ℕ) → x < nothing → before P L v x ≡ get_or P x 0
 before_place P L v x within = rw (ne_eqb x nothing (omega arith)) refl
 
--- a number that is set at a place changes nothing at another node
+-- an entry that is set at a place changes nothing at another node
 after_other : (N F : List ℕ) (v q x y : ℕ) → q ≢ x + 1 → after (set N x y) F v q ≡ after N F v q
 after_other N F v q x y apart =
     elim (cases_eq q 0) [
@@ -24,6 +25,7 @@ after_other N F v q x y apart =
       | inr place ↦ rw (ne_eqb q 0 place) (get_or-set_other N x (q - 1) y 0 (λ e. apart (omega (arith, e, place))))
     ]
 
+-- and nothing at another stop
 before_other : (P L : List ℕ) (v s x y : ℕ) → s ≢ x → before (set P x y) L v s ≡ before P L v s
 before_other P L v s x y apart =
     elim (cases_eq s nothing) [
@@ -31,7 +33,7 @@ before_other P L v s x y apart =
       | inr place ↦ rw (ne_eqb s nothing place) (get_or-set_other P x s y 0 apart)
     ]
 
--- there is one first place
+-- there is one first place from a node on
 same_first : (n : ℕ) (V : ℕ → ℕ) (v from s s' : ℕ) → n ≤ nothing → IsFirstFrom n V v from s → IsFirstFrom n V v from s' → s ≡ s'
 same_first n V v from s s' few first second =
     elim (cases_eq s nothing) [
@@ -48,16 +50,21 @@ same_first n V v from s s' few first second =
           ]
     ]
 
+-- ---- taking a place out of its thread
+
 module _ (V N P F L : List ℕ) (threaded : IsThreaded V N P F L) (x : ℕ) (within : x < length V) (some : get_or V x 0 ≢ nothing) where
+  -- the number at the place is one of the column's
   known : get_or V x 0 < length F
   known = threaded.within x within some
 
+  -- the node before the place is one of its number
   at_node : IsNode (length V) (λ z. get_or V z 0) (get_or V x 0) (get_or P x 0)
   at_node =
       let few = threaded.few in
       subst (IsNode (length V) (λ z. get_or V z 0) (get_or V x 0)) (before_place P L (get_or V x 0) x (omega arith))
       (threaded.links.back (get_or V x 0) x known (λ there. (within, refl))).0
 
+  -- the node before the place is in range
   pub node_within : get_or P x 0 < length N + 1
   node_within =
       elim (cases_eq (get_or P x 0) 0) [
@@ -65,6 +72,7 @@ module _ (V N P F L : List ℕ) (threaded : IsThreaded V N P F L) (x : ℕ) (wit
         | inr place ↦ let at = at_node (get_or P x 0 - 1) (omega arith) in omega (arith, at.0, threaded.nexts)
       ]
 
+  -- the place behind the place is in range
   pub stop_within : get_or N x 0 ≢ nothing → get_or N x 0 < length P
   stop_within more =
       let first : IsFirstFrom (length V) (λ z. get_or V z 0) (get_or V x 0) (x + 1) (get_or N x 0) =
@@ -102,9 +110,10 @@ module _ (V N P F L : List ℕ) (threaded : IsThreaded V N P F L) (x : ℕ) (wit
             (subst (λ (n : ℕ). AreLinks n (length F) (λ z. get_or (set V x nothing) z 0) (after N' F') (before P' L')) (sym long) links);
       }
 
--- ---- where a place stands among those of a number
+-- ---- putting a place without a number into the thread of one
 
 module _ (V N P F L : List ℕ) (threaded : IsThreaded V N P F L) (x v : ℕ) (within : x < length V) (known : v < length F) (free : get_or V x 0 ≡ nothing) where
+  -- each place is ahead of the end, which the last node of the number leads to
   pub ahead_first : (node : ℕ) → node ≡ get_or L v 0 → IsAhead (length V) (λ z. get_or V z 0) v x node nothing
   ahead_first node is =
       let few = threaded.few in
@@ -118,6 +127,7 @@ module _ (V N P F L : List ℕ) (threaded : IsThreaded V N P F L) (x v : ℕ) (w
         ahead = omega arith;
       }
 
+  -- the node that stands behind the place is in range
   pub ahead_within : (node stop : ℕ) → IsAhead (length V) (λ z. get_or V z 0) v x node stop → x < node → node - 1 < length P
   ahead_within node stop ahead more = omega (arith, threaded.previouses, (ahead.is_node (node - 1) (omega arith)).0)
 
@@ -189,50 +199,34 @@ module _ (V N P F L : List ℕ) (threaded : IsThreaded V N P F L) (x v : ℕ) (w
             (subst (λ (n : ℕ). AreLinks n (length F) (λ z. get_or (set V x v) z 0) (after N' F') (before P' L')) (sym long) links);
       }
 
--- ---- walks
+-- ---- what a walk reads
 
 module _ (V N P F L : List ℕ) (threaded : IsThreaded V N P F L) (v : ℕ) (known : v < length F) where
+  -- the first place of a number
   pub first_of : IsFirstFrom (length V) (λ z. get_or V z 0) v 0 (get_or F v 0)
   first_of = threaded.links.leads v 0 known (λ place e. absurd (omega (arith, e)))
 
+  -- the next place of a number
   pub next_of : (x : ℕ) → x < length V → get_or V x 0 ≡ v → IsFirstFrom (length V) (λ z. get_or V z 0) v (x + 1) (get_or N x 0)
   next_of x within is =
       subst (IsFirstFrom (length V) (λ z. get_or V z 0) v (x + 1)) (after_place N F v x)
       (threaded.links.leads v (x + 1) known (λ place e. let same : x ≡ place = omega arith in (omega arith, ap (λ z. get_or V z 0) (sym same) ∙ is)))
 
--- ---- no number at any place
-
-pub thread_new : (n t : ℕ) → n ≤ nothing → t ≤ nothing
-    → IsThreaded (replicate n nothing) (replicate n nothing) (replicate n 0) (replicate t nothing) (replicate t 0)
-thread_new n t few few_targets =
-    let places : length (replicate n nothing) ≡ n = length-replicate n nothing in
-    let targets : length (replicate t nothing) ≡ t = length-replicate t nothing in
-    let free : (z : ℕ) → z < length (replicate n nothing) → get_or (replicate n nothing) z 0 ≡ nothing =
-    λ z in_range. get_or-replicate n z nothing 0 (omega (arith, in_range, places)) in
-    record {
-      few = omega (arith, places, few);
-      few_targets = omega (arith, targets, few_targets);
-      nexts = refl;
-      previouses = length-replicate n 0 ∙ sym places;
-      lasts = length-replicate t 0 ∙ sym targets;
-      within = λ place in_range some. absurd (some (free place in_range));
-      links = unlinked_all (length (replicate n nothing)) (length (replicate t nothing)) (λ z. get_or (replicate n nothing) z 0)
-          (after (replicate n nothing) (replicate t nothing)) (before (replicate n 0) (replicate t 0)) (omega (arith, targets, few_targets)) free
-          (λ v known. get_or-replicate t v nothing 0 (omega (arith, known, targets)))
-          (λ v known. get_or-replicate t v 0 0 (omega (arith, known, targets)));
-    }
-
 -- ---- a place more, and a number more
 
+-- what is appended stands last
 put_last : (xs : List ℕ) (y : ℕ) → get_or (xs ++ y ∷ []) (length xs) 0 ≡ y
 put_last xs y = get_or-append_right xs (y ∷ []) (length xs) (length xs) 0 refl (omega arith) ∙ (let e : length xs - length xs ≡ 0 = omega arith in rw e refl)
 
+-- what stood there stays
 stays_before : (xs : List ℕ) (y k : ℕ) → k < length xs → get_or (xs ++ y ∷ []) k 0 ≡ get_or xs k 0
 stays_before xs y k within = get_or_append_left xs (y ∷ []) 0 k within
 
+-- and the list is longer by one
 longer : (xs : List ℕ) (y : ℕ) → length (xs ++ y ∷ []) ≡ length xs + 1
 longer xs y = length-append xs (y ∷ [])
 
+-- the lists with a place more, which has no number
 pub thread_grown : (V N P F L : List ℕ) → IsThreaded V N P F L → length V < nothing
     → IsThreaded (V ++ nothing ∷ []) (N ++ nothing ∷ []) (P ++ 0 ∷ []) F L
 thread_grown V N P F L threaded few =
@@ -264,6 +258,7 @@ thread_grown V N P F L threaded few =
           ]));
     }
 
+-- the lists with a number more, which stands at no place
 pub thread_widened : (V N P F L : List ℕ) → IsThreaded V N P F L → length F < nothing → IsThreaded V N P (F ++ nothing ∷ []) (L ++ 0 ∷ [])
 thread_widened V N P F L threaded few =
     let lasts = threaded.lasts in
