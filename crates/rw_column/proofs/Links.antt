@@ -88,34 +88,34 @@ module _ (n t : ℕ) (V V' : ℕ → ℕ) (x : ℕ) (few : n ≤ nothing) (few_t
   -- each node leads to the first place behind it once x is out
   first_unlinked : (a b a' : ℕ → ℕ → ℕ) (v p y : ℕ) → AreLinks n t V a b → v < t → V x ≡ v → IsNode n V v p → a v p ≡ x → IsFirstFrom n V v (x + 1) y
       → IsLed a a' v p y → (u q : ℕ) → u < t → IsNode n V' u q → IsFirstFrom n V' u q (a' u q)
-  first_unlinked a b a' v p y links known is node leads rest led u q in_range q_node =
-      let was : IsNode n V u q × (q ≢ x + 1) = node_before u q in_range q_node in
-      let first : IsFirstFrom n V u q (a u q) = links.leads u q in_range was.0 in
+  first_unlinked a b a' v p y links known is p_node p_leads y_first led u q in_range q_node =
+      let q_before : IsNode n V u q × (q ≢ x + 1) = node_before u q in_range q_node in
+      let q_first : IsFirstFrom n V u q (a u q) = links.leads u q in_range q_before.0 in
       elim (cases_eq u v) [
         | inr apart ↦
-            let stays : a' u q ≡ a u q = elsewhere n V a a' v p y u q led node was.0 apart in
+            let stays : a' u q ≡ a u q = elsewhere n V a a' v p y u q led p_node q_before.0 apart in
             let kept : IsFirstFrom n V' u q (a u q) = first_after u q (a u q) in_range
-            (λ e. apart (sym (subst (λ (k : ℕ). V k ≡ u) e (first.there (λ none. omega (arith, none, e))).2) ∙ is)) first in
+            (λ e. apart (sym (subst (λ (k : ℕ). V k ≡ u) e (q_first.there (λ none. omega (arith, none, e))).2) ∙ is)) q_first in
             subst (IsFirstFrom n V' u q) (sym stays) kept
         | inl same ↦ elim (cases_eq q p) [
           | inr other ↦
               let stays : a' u q ≡ a u q = led.others u q other in
-              let apart : a u q ≢ x = λ e. other (one_leads n V v q p x few (subst (λ (k : ℕ). IsNode n V k q) same was.0) node
-              (subst (λ (k : ℕ). IsFirstFrom n V k q x) same (subst (IsFirstFrom n V u q) e first))
-              (subst (IsFirstFrom n V v p) leads (links.leads v p known node))) in
-              subst (IsFirstFrom n V' u q) (sym stays) (first_after u q (a u q) in_range apart first)
+              let apart : a u q ≢ x = λ e. other (one_leads n V v q p x few (subst (λ (k : ℕ). IsNode n V k q) same q_before.0) p_node
+              (subst (λ (k : ℕ). IsFirstFrom n V k q x) same (subst (IsFirstFrom n V u q) e q_first))
+              (subst (IsFirstFrom n V v p) p_leads (links.leads v p known p_node))) in
+              subst (IsFirstFrom n V' u q) (sym stays) (first_after u q (a u q) in_range apart q_first)
           | inl here ↦
-              let before_x : IsFirstFrom n V v p x = subst (IsFirstFrom n V v p) leads (links.leads v p known node) in
-              let at_x : (p ≤ x) × (x < n) × (V x ≡ v) = before_x.there (λ e. omega (arith, e)) in
+              let x_first : IsFirstFrom n V v p x = subst (IsFirstFrom n V v p) p_leads (links.leads v p known p_node) in
+              let x_found : (p ≤ x) × (x < n) × (V x ≡ v) = x_first.there (λ e. omega (arith, e)) in
               let from_p : IsFirstFrom n V' v p y = record {
                 least = λ z from in_z z_is.
                     let old : (z ≢ x) × (V z ≡ v) = had v z known z_is in
                     elim (cases_order z x) [
                       | inl e ↦ absurd (old.0 e)
-                      | inr (inl less) ↦ let behind : x ≤ z = before_x.least z from in_z old.1 in omega arith
-                      | inr (inr more) ↦ rest.least z (omega arith) in_z old.1
+                      | inr (inl less) ↦ let behind : x ≤ z = x_first.least z from in_z old.1 in omega arith
+                      | inr (inr more) ↦ y_first.least z (omega arith) in_z old.1
                     ];
-                there = λ some. let at = rest.there some in (omega (arith, at.0, at_x.0), at.1, others y (λ e. omega (arith, at.0, e)) ∙ at.2);
+                there = λ some. let at = y_first.there some in (omega (arith, at.0, x_found.0), at.1, others y (λ e. omega (arith, at.0, e)) ∙ at.2);
               } in
               subst (λ (k : ℕ). IsFirstFrom n V' u q k) (sym (subst (λ (k : ℕ). a' k q ≡ y) (sym same) (subst (λ (k : ℕ). a' v k ≡ y) (sym here) led.here)))
               (subst (λ (k : ℕ). IsFirstFrom n V' k q y) (sym same) (subst (λ (k : ℕ). IsFirstFrom n V' v k y) (sym here) from_p))
@@ -125,31 +125,31 @@ module _ (n t : ℕ) (V V' : ℕ → ℕ) (x : ℕ) (few : n ≤ nothing) (few_t
   -- each stop knows the node that leads to it once x is out
   back_unlinked : (a b a' b' : ℕ → ℕ → ℕ) (v p y : ℕ) → AreLinks n t V a b → v < t → V x ≡ v → IsNode n V v p → a v p ≡ x → a v (x + 1) ≡ y
       → IsLed a a' v p y → IsBacked b b' v y p → (u s : ℕ) → u < t → IsStop n V' u s → IsNode n V' u (b' u s) × (a' u (b' u s) ≡ s)
-  back_unlinked a b a' b' v p y links known is node leads rest led backed u s in_range stop =
+  back_unlinked a b a' b' v p y links known is p_node p_leads x_leads led backed u s in_range stop =
       let apart_x : s ≢ x = λ e. let e' : V' s ≡ u = (stop (λ none. omega (arith, none, e))).1 in (had u s in_range e').0 e in
-      let was : IsStop n V u s = λ some. ((stop some).0, sym (others s apart_x) ∙ (stop some).1) in
-      let old : IsNode n V u (b u s) × (a u (b u s) ≡ s) = links.back u s in_range was in
-      let at_x : IsNode n V v (x + 1) = λ place e. (omega arith, subst (λ (k : ℕ). V k ≡ v) (let k : x ≡ place = omega arith in k) is) in
-      let y_first : IsFirstFrom n V v (x + 1) y = subst (IsFirstFrom n V v (x + 1)) rest (links.leads v (x + 1) known at_x) in
+      let s_stop : IsStop n V u s = λ some. ((stop some).0, sym (others s apart_x) ∙ (stop some).1) in
+      let old : IsNode n V u (b u s) × (a u (b u s) ≡ s) = links.back u s in_range s_stop in
+      let x_node : IsNode n V v (x + 1) = λ place e. (omega arith, subst (λ (k : ℕ). V k ≡ v) (let k : x ≡ place = omega arith in k) is) in
+      let y_first : IsFirstFrom n V v (x + 1) y = subst (IsFirstFrom n V v (x + 1)) x_leads (links.leads v (x + 1) known x_node) in
       let y_stop : IsStop n V v y = λ some. let at = y_first.there some in (at.1, at.2) in
       elim (cases_eq u v) [
         | inr apart ↦
-            let stays : b' u s ≡ b u s = elsewhere_back n V b b' v p y u s backed y_stop was apart in
+            let stays : b' u s ≡ b u s = elsewhere_back n V b b' v p y u s backed y_stop s_stop apart in
             let not_x : b u s ≢ x + 1 = λ e. apart (sym (old.0 x e).1 ∙ is) in
-            let leads_on : a' u (b u s) ≡ s = elsewhere n V a a' v p y u (b u s) led node old.0 apart ∙ old.1 in
-            subst (λ (q : ℕ). IsNode n V' u q × (a' u q ≡ s)) (sym stays) (node_after u (b u s) old.0 not_x, leads_on)
+            let s_led : a' u (b u s) ≡ s = elsewhere n V a a' v p y u (b u s) led p_node old.0 apart ∙ old.1 in
+            subst (λ (q : ℕ). IsNode n V' u q × (a' u q ≡ s)) (sym stays) (node_after u (b u s) old.0 not_x, s_led)
         | inl same ↦ elim (cases_eq s y) [
           | inl here ↦
-              let before_x : IsFirstFrom n V v p x = subst (IsFirstFrom n V v p) leads (links.leads v p known node) in
-              let at_p : (p ≤ x) × (x < n) × (V x ≡ v) = before_x.there (λ e. omega (arith, e)) in
-              let node' : IsNode n V' v p = node_after v p node (λ e. omega (arith, at_p.0, e)) in
+              let x_first : IsFirstFrom n V v p x = subst (IsFirstFrom n V v p) p_leads (links.leads v p known p_node) in
+              let x_found : (p ≤ x) × (x < n) × (V x ≡ v) = x_first.there (λ e. omega (arith, e)) in
+              let p_node' : IsNode n V' v p = node_after v p p_node (λ e. omega (arith, x_found.0, e)) in
               let goes : b' u s ≡ p = subst (λ (k : ℕ). b' k s ≡ p) (sym same) (subst (λ (k : ℕ). b' v k ≡ p) (sym here) backed.here) in
-              let leads_on : a' u p ≡ s = subst (λ (k : ℕ). a' k p ≡ s) (sym same) (led.here ∙ sym here) in
-              subst (λ (q : ℕ). IsNode n V' u q × (a' u q ≡ s)) (sym goes) (subst (λ (k : ℕ). IsNode n V' k p) (sym same) node', leads_on)
+              let s_led : a' u p ≡ s = subst (λ (k : ℕ). a' k p ≡ s) (sym same) (led.here ∙ sym here) in
+              subst (λ (q : ℕ). IsNode n V' u q × (a' u q ≡ s)) (sym goes) (subst (λ (k : ℕ). IsNode n V' k p) (sym same) p_node', s_led)
           | inr other ↦
               let stays : b' u s ≡ b u s = backed.others u s other in
-              let not_x : b u s ≢ x + 1 = λ e. other (sym old.1 ∙ subst (λ (k : ℕ). a k (b u s) ≡ y) (sym same) (subst (λ (k : ℕ). a v k ≡ y) (sym e) rest)) in
-              let not_p : b u s ≢ p = λ e. apart_x (sym old.1 ∙ subst (λ (k : ℕ). a k (b u s) ≡ x) (sym same) (subst (λ (k : ℕ). a v k ≡ x) (sym e) leads)) in
+              let not_x : b u s ≢ x + 1 = λ e. other (sym old.1 ∙ subst (λ (k : ℕ). a k (b u s) ≡ y) (sym same) (subst (λ (k : ℕ). a v k ≡ y) (sym e) x_leads)) in
+              let not_p : b u s ≢ p = λ e. apart_x (sym old.1 ∙ subst (λ (k : ℕ). a k (b u s) ≡ x) (sym same) (subst (λ (k : ℕ). a v k ≡ x) (sym e) p_leads)) in
               subst (λ (q : ℕ). IsNode n V' u q × (a' u q ≡ s)) (sym stays)
               (node_after u (b u s) old.0 not_x, led.others u (b u s) not_p ∙ old.1)
         ]
@@ -158,23 +158,23 @@ module _ (n t : ℕ) (V V' : ℕ → ℕ) (x : ℕ) (few : n ≤ nothing) (few_t
   -- a place is taken out of its thread
   pub unlinked : (a b a' b' : ℕ → ℕ → ℕ) (v p y : ℕ) → AreLinks n t V a b → v < t → V x ≡ v → b v x ≡ p → a v (x + 1) ≡ y
       → IsLed a a' v p y → IsBacked b b' v y p → AreLinks n t V' a' b'
-  unlinked a b a' b' v p y links known is back rest led backed =
+  unlinked a b a' b' v p y links known is back x_leads led backed =
       let x_stop : IsStop n V v x = λ some. (within, is) in
       let at : IsNode n V v (b v x) × (a v (b v x) ≡ x) = links.back v x known x_stop in
-      let node : IsNode n V v p = subst (IsNode n V v) back at.0 in
-      let leads : a v p ≡ x = subst (λ (q : ℕ). a v q ≡ x) back at.1 in
-      let at_x : IsNode n V v (x + 1) = λ place e. (omega arith, subst (λ (k : ℕ). V k ≡ v) (let k : x ≡ place = omega arith in k) is) in
-      let first : IsFirstFrom n V v (x + 1) y = subst (IsFirstFrom n V v (x + 1)) rest (links.leads v (x + 1) known at_x) in
+      let p_node : IsNode n V v p = subst (IsNode n V v) back at.0 in
+      let p_leads : a v p ≡ x = subst (λ (q : ℕ). a v q ≡ x) back at.1 in
+      let x_node : IsNode n V v (x + 1) = λ place e. (omega arith, subst (λ (k : ℕ). V k ≡ v) (let k : x ≡ place = omega arith in k) is) in
+      let y_first : IsFirstFrom n V v (x + 1) y = subst (IsFirstFrom n V v (x + 1)) x_leads (links.leads v (x + 1) known x_node) in
       record {
-        leads = first_unlinked a b a' v p y links known is node leads first led;
-        back = back_unlinked a b a' b' v p y links known is node leads rest led backed;
+        leads = first_unlinked a b a' v p y links known is p_node p_leads y_first led;
+        back = back_unlinked a b a' b' v p y links known is p_node p_leads x_leads led backed;
       }
 
 -- ---- putting a place in: first V alone is changed, then x has its own links (a₁ and b₁), then p and y are led to x
 
 module _ (n t : ℕ) (V V' : ℕ → ℕ) (x v p y : ℕ) (few : n ≤ nothing) (few_targets : t ≤ nothing) (within : x < n) (known : v < t)
     (free : V x ≡ nothing) (put : V' x ≡ v) (others : (z : ℕ) → z ≢ x → V' z ≡ V z)
-    (node : IsNode n V v p) (p_first : IsFirstFrom n V v p y) (before_x : p ≤ x) (after_x : x < y) where
+    (p_node : IsNode n V v p) (y_first : IsFirstFrom n V v p y) (before_x : p ≤ x) (after_x : x < y) where
   -- the place was no place of a number
   not_x : (u z : ℕ) → u < t → V z ≡ u → z ≢ x
   not_x u z in_range is e = omega (arith, sym is ∙ subst (λ (k : ℕ). V k ≡ nothing) (sym e) free)
@@ -194,12 +194,12 @@ module _ (n t : ℕ) (V V' : ℕ → ℕ) (x v p y : ℕ) (few : n ≤ nothing) 
 
   -- the stop behind x is one of v
   y_stop : IsStop n V v y
-  y_stop some = let at = p_first.there some in (at.1, at.2)
+  y_stop some = let at = y_first.there some in (at.1, at.2)
 
   module _ (a b a₁ b₁ a' b' : ℕ → ℕ → ℕ) (links : AreLinks n t V a b)
       (a_here : (u : ℕ) → a₁ u (x + 1) ≡ y) (a_others : (u q : ℕ) → q ≢ x + 1 → a₁ u q ≡ a u q)
       (b_here : (u : ℕ) → b₁ u x ≡ p) (b_others : (u s : ℕ) → s ≢ x → b₁ u s ≡ b u s)
-      (leads : a v p ≡ y) (led : IsLed a₁ a' v p x) (backed : IsBacked b₁ b' v y (x + 1)) where
+      (p_leads : a v p ≡ y) (led : IsLed a₁ a' v p x) (backed : IsBacked b₁ b' v y (x + 1)) where
     -- x leads to the stop behind it
     leads_on : (u : ℕ) → a' u (x + 1) ≡ y
     leads_on u = led.others u (x + 1) (λ e. omega (arith, e, before_x)) ∙ a_here u
@@ -210,7 +210,7 @@ module _ (n t : ℕ) (V V' : ℕ → ℕ) (x v p y : ℕ) (few : n ≤ nothing) 
 
     -- a node of another number leads where it led
     stays_elsewhere : (u q : ℕ) → u < t → IsNode n V u q → u ≢ v → a' u q ≡ a u q
-    stays_elsewhere u q in_range old apart = elsewhere n V a₁ a' v p x u q led node old apart ∙ a_others u q (not_behind u q in_range old)
+    stays_elsewhere u q in_range old apart = elsewhere n V a₁ a' v p x u q led p_node old apart ∙ a_others u q (not_behind u q in_range old)
 
     -- each older node of v leads to the first place behind it once x is in
     first_here : (q : ℕ) → IsNode n V v q → IsFirstFrom n V' v q (a' v q)
@@ -219,7 +219,7 @@ module _ (n t : ℕ) (V V' : ℕ → ℕ) (x v p y : ℕ) (few : n ≤ nothing) 
           | inl same ↦ subst (λ (k : ℕ). IsFirstFrom n V' v k (a' v k)) (sym same) (subst (IsFirstFrom n V' v p) (sym led.here) (record {
             least = λ z from in_z is. elim (cases_eq z x) [
               | inl e ↦ omega (arith, e)
-              | inr apart ↦ let far : y ≤ z = p_first.least z from in_z (sym (others z apart) ∙ is) in omega (arith, far, after_x)
+              | inr apart ↦ let far : y ≤ z = y_first.least z from in_z (sym (others z apart) ∙ is) in omega (arith, far, after_x)
             ];
             there = λ some. (before_x, within, put);
           }))
@@ -232,13 +232,13 @@ module _ (n t : ℕ) (V V' : ℕ → ℕ) (x v p y : ℕ) (few : n ≤ nothing) 
                     | inl same ↦ absurd (apart same)
                     | inr (inl less) ↦
                         let w : ℕ = p - 1 in
-                        let at : (w < n) × (V w ≡ v) = node w (omega arith) in
+                        let at : (w < n) × (V w ≡ v) = p_node w (omega arith) in
                         let near : a v q ≤ w = first.least w (omega arith) at.0 at.1 in
                         omega (arith, near, before_x, e)
                     | inr (inr more) ↦
                         let w : ℕ = q - 1 in
                         let at : (w < n) × (V w ≡ v) = old w (omega arith) in
-                        let far : y ≤ w = p_first.least w (omega arith) at.0 at.1 in
+                        let far : y ≤ w = y_first.least w (omega arith) at.0 at.1 in
                         omega (arith, far, after_x, e, from)
                   ]
                 ];
@@ -253,8 +253,8 @@ module _ (n t : ℕ) (V V' : ℕ → ℕ) (x v p y : ℕ) (few : n ≤ nothing) 
           | inl here ↦
               let same : u ≡ v = sym (new x here).1 ∙ put in
               let first : IsFirstFrom n V' v (x + 1) y = record {
-                least = λ z from in_z is. p_first.least z (omega (arith, from, before_x)) in_z (sym (others z (λ e. omega (arith, e, from))) ∙ is);
-                there = λ some. let at = p_first.there some in (omega (arith, after_x), at.1, others y (λ e. omega (arith, e, after_x)) ∙ at.2);
+                least = λ z from in_z is. y_first.least z (omega (arith, from, before_x)) in_z (sym (others z (λ e. omega (arith, e, from))) ∙ is);
+                there = λ some. let at = y_first.there some in (omega (arith, after_x), at.1, others y (λ e. omega (arith, e, after_x)) ∙ at.2);
               } in
               subst (λ (k : ℕ). IsFirstFrom n V' k q (a' k q)) (sym same)
               (subst (λ (k : ℕ). IsFirstFrom n V' v k (a' v k)) (sym here) (subst (IsFirstFrom n V' v (x + 1)) (sym (leads_on v)) first))
@@ -281,7 +281,7 @@ module _ (n t : ℕ) (V V' : ℕ → ℕ) (x v p y : ℕ) (few : n ≤ nothing) 
               let same : u ≡ v = sym at.1 ∙ subst (λ (k : ℕ). V' k ≡ v) (sym here) put in
               let goes : b' u s ≡ p = backed.others u s (λ e. omega (arith, e, here, after_x)) ∙ subst (λ (k : ℕ). b₁ u k ≡ p) (sym here) (b_here u) in
               subst (λ (q : ℕ). IsNode n V' u q × (a' u q ≡ s)) (sym goes)
-              (subst (λ (k : ℕ). IsNode n V' k p × (a' k p ≡ s)) (sym same) (node_more v p known node, led.here ∙ sym here))
+              (subst (λ (k : ℕ). IsNode n V' k p × (a' k p ≡ s)) (sym same) (node_more v p known p_node, led.here ∙ sym here))
           | inr apart_x ↦
               let was : IsStop n V u s = λ some. ((new some).0, sym (others s apart_x) ∙ (new some).1) in
               let old : IsNode n V u (b u s) × (a u (b u s) ≡ s) = links.back u s in_range was in
@@ -298,7 +298,7 @@ module _ (n t : ℕ) (V V' : ℕ → ℕ) (x v p y : ℕ) (few : n ≤ nothing) 
                       (subst (λ (k : ℕ). IsNode n V' k (x + 1)) (sym same) x_node, leads_on u ∙ sym at_y)
                   | inr other ↦
                       let goes : b' u s ≡ b u s = backed.others u s other ∙ b_others u s apart_x in
-                      let not_p : b u s ≢ p = λ e. other (sym old.1 ∙ subst (λ (k : ℕ). a k (b u s) ≡ y) (sym same) (subst (λ (k : ℕ). a v k ≡ y) (sym e) leads)) in
+                      let not_p : b u s ≢ p = λ e. other (sym old.1 ∙ subst (λ (k : ℕ). a k (b u s) ≡ y) (sym same) (subst (λ (k : ℕ). a v k ≡ y) (sym e) p_leads)) in
                       subst (λ (q : ℕ). IsNode n V' u q × (a' u q ≡ s)) (sym goes)
                       (node_more u (b u s) in_range old.0, stays u (b u s) not_p (not_behind u (b u s) in_range old.0) ∙ old.1)
                 ]
