@@ -348,34 +348,34 @@ pub widened : (n t : ℕ) (V : ℕ → ℕ) (a b a' b' : ℕ → ℕ → ℕ) �
 widened n t V a b a' b' few links within few_targets a_stays b_stays a_none b_none =
     record {
       leads = λ v q known node.
-        elim (cases_eq v t) [
-          | inr old ↦
-              let less : v < t = omega (arith, old) in
-              subst (IsFirstFrom n V v q) (sym (a_stays v q less)) (links.leads v q less node)
-          | inl new ↦
-              let none : (z : ℕ) → z < n → V z ≡ v → ⊥ =
+          elim (cases_eq v t) [
+            | inr old ↦
+                let less : v < t = omega (arith, old) in
+                subst (IsFirstFrom n V v q) (sym (a_stays v q less)) (links.leads v q less node)
+            | inl new ↦
+                let none : (z : ℕ) → z < n → V z ≡ v → ⊥ =
                 λ z in_range is. omega (arith, is, new, within z in_range (λ e. omega (arith, is, new, e))) in
-              let zero : q ≡ 0 = elim (cases_eq q 0) [ inl e ↦ e | inr more ↦ let at = node (q - 1) (omega (arith, more)) in absurd (none (q - 1) at.0 at.1) ] in
-              let stops : a' v q ≡ nothing = subst (λ (k : ℕ). a' k q ≡ nothing) (sym new) (subst (λ (k : ℕ). a' t k ≡ nothing) (sym zero) a_none) in
-              subst (IsFirstFrom n V v q) (sym stops) (record {
-                least = λ z from in_range is. absurd (none z in_range is);
-                there = λ some. absurd (some refl);
-              })
-        ];
+                let zero : q ≡ 0 = elim (cases_eq q 0) [ inl e ↦ e | inr more ↦ let at = node (q - 1) (omega (arith, more)) in absurd (none (q - 1) at.0 at.1) ] in
+                let stops : a' v q ≡ nothing = subst (λ (k : ℕ). a' k q ≡ nothing) (sym new) (subst (λ (k : ℕ). a' t k ≡ nothing) (sym zero) a_none) in
+                subst (IsFirstFrom n V v q) (sym stops) (record {
+                  least = λ z from in_range is. absurd (none z in_range is);
+                  there = λ some. absurd (some refl);
+                })
+          ];
       back = λ v s known stop.
-        elim (cases_eq v t) [
-          | inr old ↦
-              let less : v < t = omega (arith, old) in
-              let at = links.back v s less stop in
-              subst (λ (q : ℕ). IsNode n V v q × (a' v q ≡ s)) (sym (b_stays v s less)) (at.0, a_stays v (b v s) less ∙ at.1)
-          | inl new ↦
-              let ends : s ≡ nothing = elim (cases_eq s nothing) [
-                | inl e ↦ e
-                | inr some ↦ let at = stop some in
-                    absurd (omega (arith, at.1, new, within s at.0 (λ e. omega (arith, at.1, new, e))))
-              ] in
-              let zero : b' v s ≡ 0 = subst (λ (k : ℕ). b' k s ≡ 0) (sym new) (subst (λ (k : ℕ). b' t k ≡ 0) (sym ends) b_none) in
-              subst (λ (q : ℕ). IsNode n V v q × (a' v q ≡ s)) (sym zero)
-              ((λ place is. absurd (omega (arith, is))), subst (λ (k : ℕ). a' k 0 ≡ s) (sym new) (a_none ∙ sym ends))
-        ];
+          elim (cases_eq v t) [
+            | inr old ↦
+                let less : v < t = omega (arith, old) in
+                let at = links.back v s less stop in
+                subst (λ (q : ℕ). IsNode n V v q × (a' v q ≡ s)) (sym (b_stays v s less)) (at.0, a_stays v (b v s) less ∙ at.1)
+            | inl new ↦
+                let ends : s ≡ nothing = elim (cases_eq s nothing) [
+                  | inl e ↦ e
+                  | inr some ↦ let at = stop some in
+                      absurd (omega (arith, at.1, new, within s at.0 (λ e. omega (arith, at.1, new, e))))
+                ] in
+                let zero : b' v s ≡ 0 = subst (λ (k : ℕ). b' k s ≡ 0) (sym new) (subst (λ (k : ℕ). b' t k ≡ 0) (sym ends) b_none) in
+                subst (λ (q : ℕ). IsNode n V v q × (a' v q ≡ s)) (sym zero)
+                ((λ place is. absurd (omega (arith, is))), subst (λ (k : ℕ). a' k 0 ≡ s) (sym new) (a_none ∙ sym ends))
+          ];
     }
