@@ -9,6 +9,12 @@ use Rattle.std.proofs.lemmas.Bool.{cases_eq, cases_order}
 use Rattle.rw_column.specs.Threads.{nothing}
 use Rattle.rw_column.specs.inner.Links.{IsNode, IsStop, IsFirstFrom, AreLinks, IsLed, IsBacked}
 
+-- the node of a place that has the number
+pub node_of : (n : ℕ) (V : ℕ → ℕ) (v x : ℕ) → x < n → V x ≡ v → IsNode n V v (x + 1)
+node_of n V v x within is place e =
+    let same : x ≡ place = omega (arith, e) in
+    (omega (arith, within, same), subst (λ (k : ℕ). V k ≡ v) same is)
+
 -- of two nodes the lesser does not lead where the other one does
 lesser_leads : (n : ℕ) (V : ℕ → ℕ) (v p q s : ℕ) → n ≤ nothing → IsNode n V v q → IsFirstFrom n V v p s → IsFirstFrom n V v q s → p < q → ⊥
 lesser_leads n V v p q s few node first second less =
@@ -129,7 +135,7 @@ module _ (n t : ℕ) (V V' : ℕ → ℕ) (x : ℕ) (few : n ≤ nothing) (few_t
       let apart_x : s ≢ x = λ e. let e' : V' s ≡ u = (stop (λ none. omega (arith, none, e))).1 in (had u s in_range e').0 e in
       let s_stop : IsStop n V u s = λ some. ((stop some).0, sym (others s apart_x) ∙ (stop some).1) in
       let old : IsNode n V u (b u s) × (a u (b u s) ≡ s) = links.back u s in_range s_stop in
-      let x_node : IsNode n V v (x + 1) = λ place e. (omega arith, subst (λ (k : ℕ). V k ≡ v) (let k : x ≡ place = omega arith in k) is) in
+      let x_node : IsNode n V v (x + 1) = node_of n V v x within is in
       let y_first : IsFirstFrom n V v (x + 1) y = subst (IsFirstFrom n V v (x + 1)) x_leads (links.leads v (x + 1) known x_node) in
       let y_stop : IsStop n V v y = λ some. let at = y_first.there some in (at.1, at.2) in
       elim (cases_eq u v) [
@@ -163,7 +169,7 @@ module _ (n t : ℕ) (V V' : ℕ → ℕ) (x : ℕ) (few : n ≤ nothing) (few_t
       let at : IsNode n V v (b v x) × (a v (b v x) ≡ x) = links.back v x known x_stop in
       let p_node : IsNode n V v p = subst (IsNode n V v) back at.0 in
       let p_leads : a v p ≡ x = subst (λ (q : ℕ). a v q ≡ x) back at.1 in
-      let x_node : IsNode n V v (x + 1) = λ place e. (omega arith, subst (λ (k : ℕ). V k ≡ v) (let k : x ≡ place = omega arith in k) is) in
+      let x_node : IsNode n V v (x + 1) = node_of n V v x within is in
       let y_first : IsFirstFrom n V v (x + 1) y = subst (IsFirstFrom n V v (x + 1)) x_leads (links.leads v (x + 1) known x_node) in
       record {
         leads = first_unlinked a b a' v p y links known is p_node p_leads y_first led;
@@ -293,7 +299,7 @@ module _ (n t : ℕ) (V V' : ℕ → ℕ) (x v p y : ℕ) (few : n ≤ nothing) 
                 | inl same ↦ elim (cases_eq s y) [
                   | inl at_y ↦
                       let goes : b' u s ≡ x + 1 = subst (λ (k : ℕ). b' k s ≡ x + 1) (sym same) (subst (λ (k : ℕ). b' v k ≡ x + 1) (sym at_y) backed.here) in
-                      let x_node : IsNode n V' v (x + 1) = λ place e. (omega arith, subst (λ (k : ℕ). V' k ≡ v) (let k : x ≡ place = omega arith in k) put) in
+                      let x_node : IsNode n V' v (x + 1) = node_of n V' v x within put in
                       subst (λ (q : ℕ). IsNode n V' u q × (a' u q ≡ s)) (sym goes)
                       (subst (λ (k : ℕ). IsNode n V' k (x + 1)) (sym same) x_node, leads_on u ∙ sym at_y)
                   | inr other ↦

@@ -7,7 +7,7 @@ use Rattle.std.proofs.lemmas.List.{get_or_append_left, get_or-append_right}
 use Rattle.rw_column.specs.Threads.{nothing}
 use Rattle.rw_column.specs.inner.Links.{IsNode, IsFirstFrom, AreLinks, IsLed, IsBacked, IsAhead, IsGap}
 use Rattle.rw_column.specs.inner.Threads.{IsThreaded, after, before}
-use Rattle.rw_column.proofs.Links.{unlinked, linked, grown, widened}
+use Rattle.rw_column.proofs.Links.{node_of, unlinked, linked, grown, widened}
 
 -- what follows a place
 after_place : (N F : List ℕ) (v x : ℕ) → after N F v (x + 1) ≡ get_or N x 0
@@ -50,6 +50,52 @@ same_first n V v from s s' few first second =
           ]
     ]
 
+-- ---- what a walk reads
+
+module _ (V N P F L : List ℕ) (threaded : IsThreaded V N P F L) (v : ℕ) (known : v < length F) where
+  -- the first place of a number
+  pub first_of : IsFirstFrom (length V) (λ z. get_or V z 0) v 0 (get_or F v 0)
+  first_of = threaded.links.leads v 0 known (λ place e. absurd (omega (arith, e)))
+
+  -- the next place of a number
+  pub next_of : (x : ℕ) → x < length V → get_or V x 0 ≡ v → IsFirstFrom (length V) (λ z. get_or V z 0) v (x + 1) (get_or N x 0)
+  next_of x within is =
+      subst (IsFirstFrom (length V) (λ z. get_or V z 0) v (x + 1)) (after_place N F v x)
+      (threaded.links.leads v (x + 1) known (node_of (length V) (λ z. get_or V z 0) v x within is))
+
+-- ---- lists in which one value is set
+
+-- the values stay numbers of the column
+within_set : (V : List ℕ) (t x w : ℕ) → x < length V → (w ≢ nothing → w < t)
+    → ((z : ℕ) → z < length V → get_or V z 0 ≢ nothing → get_or V z 0 < t)
+    → (z : ℕ) → z < length V → get_or (set V x w) z 0 ≢ nothing → get_or (set V x w) z 0 < t
+within_set V t x w x_within w_within within z in_range some =
+    elim (cases_eq z x) [
+      | inl here ↦
+          let put : get_or (set V x w) z 0 ≡ w = ap (λ k. get_or (set V x w) k 0) here ∙ get_or-set_same V x w 0 x_within in
+          rw put (w_within (λ e. some (put ∙ e)))
+      | inr other ↦
+          let stays : get_or (set V x w) z 0 ≡ get_or V z 0 = get_or-set_other V x z w 0 other in
+          rw stays (within z in_range (λ e. some (stays ∙ e)))
+    ]
+
+-- the lists fit one another as before, and so thread the values where their links do
+thread_set : (V N P F L N' P' F' L' : List ℕ) (x w : ℕ) → IsThreaded V N P F L → x < length V → (w ≢ nothing → w < length F)
+    → length N' ≡ length N → length P' ≡ length P → length F' ≡ length F → length L' ≡ length L
+    → AreLinks (length V) (length F) (λ z. get_or (set V x w) z 0) (after N' F') (before P' L') → IsThreaded (set V x w) N' P' F' L'
+thread_set V N P F L N' P' F' L' x w threaded x_within w_within n_long p_long f_long l_long links =
+    let long : length (set V x w) ≡ length V = length-set V x w in
+    record {
+      few = rw long threaded.few;
+      few_targets = rw f_long threaded.few_targets;
+      nexts = n_long ∙ threaded.nexts ∙ sym long;
+      previouses = p_long ∙ threaded.previouses ∙ sym long;
+      lasts = l_long ∙ threaded.lasts ∙ sym f_long;
+      within = rw f_long (λ z in_range. within_set V (length F) x w x_within w_within threaded.within z (omega (arith, in_range, long)));
+      links = subst (λ (t : ℕ). AreLinks (length (set V x w)) t (λ z. get_or (set V x w) z 0) (after N' F') (before P' L')) (sym f_long)
+          (subst (λ (n : ℕ). AreLinks n (length F) (λ z. get_or (set V x w) z 0) (after N' F') (before P' L')) (sym long) links);
+    }
+
 -- ---- taking a place out of its thread
 
 module _ (V N P F L : List ℕ) (threaded : IsThreaded V N P F L) (x : ℕ) (within : x < length V) (some : get_or V x 0 ≢ nothing) where
@@ -75,9 +121,7 @@ module _ (V N P F L : List ℕ) (threaded : IsThreaded V N P F L) (x : ℕ) (wit
   -- the place behind the place is in range
   pub stop_within : get_or N x 0 ≢ nothing → get_or N x 0 < length P
   stop_within more =
-      let first : IsFirstFrom (length V) (λ z. get_or V z 0) (get_or V x 0) (x + 1) (get_or N x 0) =
-      subst (IsFirstFrom (length V) (λ z. get_or V z 0) (get_or V x 0) (x + 1)) (after_place N F (get_or V x 0) x)
-      (threaded.links.leads (get_or V x 0) (x + 1) known (λ place e. let same : x ≡ place = omega arith in (omega arith, ap (λ z. get_or V z 0) (sym same)))) in
+      let first = next_of V N P F L threaded (get_or V x 0) known x within refl in
       omega (arith, (first.there more).1, threaded.previouses)
 
   -- the lists once the place is taken out of its thread
@@ -86,29 +130,12 @@ module _ (V N P F L : List ℕ) (threaded : IsThreaded V N P F L) (x : ℕ) (wit
       → length P' ≡ length P → length L' ≡ length L → IsBacked (before P L) (before P' L') v y p → IsThreaded (set V x nothing) N' P' F' L'
   thread_unlinked N' P' F' L' v p y v_is p_is y_is n_long f_long led p_long l_long backed =
       let few = threaded.few in
-      let long : length (set V x nothing) ≡ length V = length-set V x nothing in
-      let back_is : before P L v x ≡ p = before_place P L v x (omega arith) ∙ sym p_is in
-      let after_is : after N F v (x + 1) ≡ y = after_place N F v x ∙ sym y_is in
-      let links : AreLinks (length V) (length F) (λ z. get_or (set V x nothing) z 0) (after N' F') (before P' L') =
-      unlinked (length V) (length F) (λ z. get_or V z 0) (λ z. get_or (set V x nothing) z 0) x threaded.few threaded.few_targets within
+      let x_back : before P L v x ≡ p = before_place P L v x (omega arith) ∙ sym p_is in
+      let x_leads : after N F v (x + 1) ≡ y = after_place N F v x ∙ sym y_is in
+      thread_set V N P F L N' P' F' L' x nothing threaded within (λ none. absurd (none refl)) n_long p_long f_long l_long
+      (unlinked (length V) (length F) (λ z. get_or V z 0) (λ z. get_or (set V x nothing) z 0) x threaded.few threaded.few_targets within
       (get_or-set_same V x nothing 0 within) (λ z apart. get_or-set_other V x z nothing 0 apart)
-      (after N F) (before P L) (after N' F') (before P' L') v p y threaded.links (subst (λ (k : ℕ). k < length F) (sym v_is) known) (sym v_is) back_is after_is led backed in
-      record {
-        few = rw long threaded.few;
-        few_targets = rw f_long threaded.few_targets;
-        nexts = n_long ∙ threaded.nexts ∙ sym long;
-        previouses = p_long ∙ threaded.previouses ∙ sym long;
-        lasts = l_long ∙ threaded.lasts ∙ sym f_long;
-        within = λ place in_range some.
-            elim (cases_eq place x) [
-              | inl here ↦ absurd (some (ap (λ z. get_or (set V x nothing) z 0) here ∙ get_or-set_same V x nothing 0 within))
-              | inr other ↦
-                  let stays : get_or (set V x nothing) place 0 ≡ get_or V place 0 = get_or-set_other V x place nothing 0 other in
-                  rw (stays, f_long) (threaded.within place (omega (arith, in_range, long)) (λ e. some (stays ∙ e)))
-            ];
-        links = subst (λ (t : ℕ). AreLinks (length (set V x nothing)) t (λ z. get_or (set V x nothing) z 0) (after N' F') (before P' L')) (sym f_long)
-            (subst (λ (n : ℕ). AreLinks n (length F) (λ z. get_or (set V x nothing) z 0) (after N' F') (before P' L')) (sym long) links);
-      }
+      (after N F) (before P L) (after N' F') (before P' L') v p y threaded.links (subst (λ (k : ℕ). k < length F) (sym v_is) known) (sym v_is) x_back x_leads led backed)
 
 -- ---- putting a place without a number into the thread of one
 
@@ -165,52 +192,19 @@ module _ (V N P F L : List ℕ) (threaded : IsThreaded V N P F L) (x v : ℕ) (w
       → IsThreaded (set V x v) N' P' F' L'
   thread_linked node stop gap N' P' F' L' n_long f_long led p_long l_long backed =
       let few = threaded.few in
-      let few_targets = threaded.few_targets in
-      let long : length (set V x v) ≡ length V = length-set V x v in
       let ahead = gap.is_ahead in
-      let leads_stop : after N F v node ≡ stop = same_first (length V) (λ z. get_or V z 0) v node (after N F v node) stop threaded.few (threaded.links.leads v node known ahead.is_node) ahead.leads in
+      let node_leads : after N F v node ≡ stop = same_first (length V) (λ z. get_or V z 0) v node (after N F v node) stop threaded.few (threaded.links.leads v node known ahead.is_node) ahead.leads in
       let x_next : x < length N = omega (arith, threaded.nexts) in
       let x_previous : x < length P = omega (arith, threaded.previouses) in
-      let links : AreLinks (length V) (length F) (λ z. get_or (set V x v) z 0) (after N' F') (before P' L') =
-      linked (length V) (length F) (λ z. get_or V z 0) (λ z. get_or (set V x v) z 0) x v node stop threaded.few threaded.few_targets within known free
+      thread_set V N P F L N' P' F' L' x v threaded within (λ some. known) (n_long ∙ length-set N x stop) (p_long ∙ length-set P x node) f_long l_long
+      (linked (length V) (length F) (λ z. get_or V z 0) (λ z. get_or (set V x v) z 0) x v node stop threaded.few threaded.few_targets within known free
       (get_or-set_same V x v 0 within) (λ z apart. get_or-set_other V x z v 0 apart) ahead.is_node ahead.leads gap.behind ahead.ahead
       (after N F) (before P L) (after (set N x stop) F) (before (set P x node) L) (after N' F') (before P' L') threaded.links
       (λ u. after_place (set N x stop) F u x ∙ get_or-set_same N x stop 0 x_next)
       (λ u q apart. after_other N F u q x stop apart)
       (λ u. before_place (set P x node) L u x (omega arith) ∙ get_or-set_same P x node 0 x_previous)
       (λ u s apart. before_other P L u s x node apart)
-      leads_stop led backed in
-      record {
-        few = rw long threaded.few;
-        few_targets = rw f_long threaded.few_targets;
-        nexts = n_long ∙ length-set N x stop ∙ threaded.nexts ∙ sym long;
-        previouses = p_long ∙ length-set P x node ∙ threaded.previouses ∙ sym long;
-        lasts = l_long ∙ threaded.lasts ∙ sym f_long;
-        within = λ place in_range some.
-            elim (cases_eq place x) [
-              | inl here ↦
-                  let now : get_or (set V x v) place 0 ≡ v = ap (λ z. get_or (set V x v) z 0) here ∙ get_or-set_same V x v 0 within in
-                  rw (now, f_long) known
-              | inr other ↦
-                  let stays : get_or (set V x v) place 0 ≡ get_or V place 0 = get_or-set_other V x place v 0 other in
-                  rw (stays, f_long) (threaded.within place (omega (arith, in_range, long)) (λ e. some (stays ∙ e)))
-            ];
-        links = subst (λ (t : ℕ). AreLinks (length (set V x v)) t (λ z. get_or (set V x v) z 0) (after N' F') (before P' L')) (sym f_long)
-            (subst (λ (n : ℕ). AreLinks n (length F) (λ z. get_or (set V x v) z 0) (after N' F') (before P' L')) (sym long) links);
-      }
-
--- ---- what a walk reads
-
-module _ (V N P F L : List ℕ) (threaded : IsThreaded V N P F L) (v : ℕ) (known : v < length F) where
-  -- the first place of a number
-  pub first_of : IsFirstFrom (length V) (λ z. get_or V z 0) v 0 (get_or F v 0)
-  first_of = threaded.links.leads v 0 known (λ place e. absurd (omega (arith, e)))
-
-  -- the next place of a number
-  pub next_of : (x : ℕ) → x < length V → get_or V x 0 ≡ v → IsFirstFrom (length V) (λ z. get_or V z 0) v (x + 1) (get_or N x 0)
-  next_of x within is =
-      subst (IsFirstFrom (length V) (λ z. get_or V z 0) v (x + 1)) (after_place N F v x)
-      (threaded.links.leads v (x + 1) known (λ place e. let same : x ≡ place = omega arith in (omega arith, ap (λ z. get_or V z 0) (sym same) ∙ is)))
+      node_leads led backed)
 
 -- ---- a place more, and a number more
 

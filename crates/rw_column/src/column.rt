@@ -168,7 +168,7 @@ impl Column {
         entry(&self.next, place)
     }
 
-    /// Whether there is such a place and it has the number.
+    /// Whether there is such a place and it has the number. So for 2^32 - 1: whether it is there and has none.
     pub fn has(&self, place: u32, value: u32) -> bool
         ensures { result ≡ (nat_lt place (length self.now.values) && slice_index self.now.values place == value) }
     {

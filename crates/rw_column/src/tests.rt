@@ -85,7 +85,7 @@ fn takes_a_place_and_a_number_within_its_room(rt: HostRuntime) -> Result<(), All
     column.add_place();
     column.add_target();
     column.link(5, 3);
-    assert!(rt; column.places() == 6);
+    assert!(rt; column.places() == 6 && column.value(4) == 1 && column.value(5) == 3);
     assert!(rt; column.has(5, 3) && !column.has(5, 1) && !column.has(6, 3));
     assert!(rt; walks(alloc, &column, 1, &[0, 1, 3, 4])?);
     assert!(rt; walks(alloc, &column, 3, &[5])?);
