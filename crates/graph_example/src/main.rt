@@ -12,9 +12,14 @@ mod walks;
 
 use agreeing::agreeing_pairs;
 use graphs::{EDGES, VERTICES, graph};
+use rw_columns::Columns;
 use rw_limits::PullbackResult;
+use rw_pattern::Tuple;
 use rw_schema::{ObjectId, PartMap, Schema};
+use rw_steps::Steps;
 use std::alloc::Global;
+use std::marker::Brand;
+use std::sync::ledger::{Blank, Ledger};
 use walks::walks;
 
 fn main(rt: HostRuntime) -> anyhow::Result<()> {
@@ -28,11 +33,27 @@ fn main(rt: HostRuntime) -> anyhow::Result<()> {
 fn print_walks(rt: &impl Print, alloc: Global, schema: &Schema) -> anyhow::Result<()>
     requires { signature_of schema.now ≡ graphs }
 {
-    let triangle = graph(alloc, schema, 4, &[(0, 1), (1, 2), (2, 0), (2, 3)])?;
-    for walk in &walks(alloc, schema, &triangle)? {
+    for walk in &triangle_walks::<Brand>(alloc, schema, Blank::new(1))? {
         println!(rt; "walk {:?}", walk.names())?;
     }
     Ok(())
+}
+
+/// The walks of two edges in a triangle with a tail. Nobody reads how many steps they took.
+fn triangle_walks<L: Ledger>(
+    alloc: Global,
+    schema: &Schema,
+    blank: Blank,
+) -> anyhow::Result<Vec<Tuple>>
+    requires schema { signature_of schema.now ≡ graphs }
+    requires name { blank.name ≡ L.name }
+    requires parts { blank.parts ≡ L.parts }
+    requires some { 0 < L.parts }
+{
+    let mut steps: Steps<L> = Steps::new(blank);
+    let triangle = graph(alloc, schema, 4, &[(0, 1), (1, 2), (2, 0), (2, 3)])?;
+    let columns = Columns::from_rows(alloc, schema, triangle.rows())?;
+    walks(alloc, schema, &columns, &mut steps)
 }
 
 /// Prints the product of an edge and a cycle of two edges.

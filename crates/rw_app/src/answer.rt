@@ -30,9 +30,12 @@ use rw_lists::fresh_list;
 use rw_pattern::Tuple;
 use rw_print::{check_line, fault_line, matches_line};
 use rw_schema::{MOST_OBJECTS, OutOfMemory, Schema, Section};
+use rw_columns::Columns;
+use rw_steps::Steps;
 use rw_table::Table;
 use rw_terms::OpTable;
 use std::alloc::Global;
+use std::sync::ledger::Ledger;
 
 /// What a command answers: how it ends, and the text that it writes.
 #[derive(Drop)]
@@ -42,48 +45,55 @@ pub struct Answer {
 }
 
 /// The answer of a command to the bytes of a document, whose terms can name the operations of the table.
-pub fn answer_command(
+pub fn answer_command<L: Ledger>(
     alloc: Global,
     command: Command<'_>,
     bytes: &[u8],
     ops: &OpTable,
+    steps: &mut Steps<L>,
 ) -> Result<Answer, OutOfMemory>
     requires { length (entries ops.now) < 2 ^ 32 }
     ensures { IfOk result (λ answer. IsAnswer (entries ops.now) (asked_for command.entry) bytes.now (text_of_answer answer)) }
 {
     match read_document(alloc, bytes, ops) {
-        Ok(document) => answer_about(alloc, command, &document, ops),
+        Ok(document) => answer_about(alloc, command, &document, ops, steps),
         Err(ReadDocEnd::Refused(fault)) => refusal(alloc, fault),
         Err(ReadDocEnd::OutOfMemory) => Err(OutOfMemory),
     }
 }
 
 /// The answer about a document without a fault.
-fn answer_about(
+fn answer_about<L: Ledger>(
     alloc: Global,
     command: Command<'_>,
     document: &Document,
     ops: &OpTable,
+    steps: &mut Steps<L>,
 ) -> Result<Answer, OutOfMemory>
     requires { IsSound (length (entries ops.now)) (document_lists document.now) }
     ensures { IfOk result (λ answer. IsAnswerTo (entries ops.now) (asked_for command.entry) (Ok (document_lists document.now)) (text_of_answer answer)) }
 {
     match command {
-        Command::Matches(name) => list_matches(alloc, name, document),
-        Command::Run { fuel, seed: _ } => run_document(alloc, document, fuel, ops),
-        Command::Check => check_document(alloc, document),
+        Command::Matches(name) => list_matches(alloc, name, document, steps),
+        Command::Run { fuel, seed: _ } => run_document(alloc, document, fuel, ops, steps),
+        Command::Check => check_document(alloc, document, steps),
         Command::Pushout => push_out(alloc, document),
         Command::Pullback => pull_back(alloc, document),
     }
 }
 
 /// The matches of the rule or the watch with the name.
-fn list_matches(alloc: Global, name: &str, document: &Document) -> Result<Answer, OutOfMemory>
+fn list_matches<L: Ledger>(
+    alloc: Global,
+    name: &str,
+    document: &Document,
+    steps: &mut Steps<L>,
+) -> Result<Answer, OutOfMemory>
     requires { HasGoals (document_lists document.now) }
     ensures { IfOk result (λ answer. text_of_answer answer ≡ listed (document_lists document.now) (find (λ named. bytes_eq name.now named.name) (named_goals (document_lists document.now)))) }
 {
     match goal_named(document, name) {
-        Some(named) => list_goal(alloc, document, named),
+        Some(named) => list_goal(alloc, document, named, steps),
         None => refusal(
             alloc,
             DocFault {
@@ -98,12 +108,18 @@ fn list_matches(alloc: Global, name: &str, document: &Document) -> Result<Answer
 }
 
 /// The matches of a goal.
-fn list_goal(alloc: Global, document: &Document, named: Named<'_>) -> Result<Answer, OutOfMemory>
+fn list_goal<L: Ledger>(
+    alloc: Global,
+    document: &Document,
+    named: Named<'_>,
+    steps: &mut Steps<L>,
+) -> Result<Answer, OutOfMemory>
     requires table { IsOver document.now.schema document.now.table }
     requires goal { IsListable (signature_of document.now.schema) (goal_of_parts named.goal.now) }
     ensures { IfOk result (λ answer. text_of_answer answer ≡ listed (document_lists document.now) (Some (record { name = named.entry.name.now; goal = goal_of_parts named.entry.goal.now }))) }
 {
-    let tuples = fresh_list(alloc, &document.schema, named.goal, &document.table)?;
+    let columns = Columns::from_rows(alloc, &document.schema, document.table.rows())?;
+    let tuples = fresh_list(alloc, &document.schema, named.goal, &columns, steps)?;
     let text = matches_line(alloc, named.name, &tuples)?;
     Ok(Answer {
         status: Status::Done,
@@ -112,11 +128,15 @@ fn list_goal(alloc: Global, document: &Document, named: Named<'_>) -> Result<Ans
 }
 
 /// The lengths of the kept lists, and the numbers of parts.
-fn check_document(alloc: Global, document: &Document) -> Result<Answer, OutOfMemory>
+fn check_document<L: Ledger>(
+    alloc: Global,
+    document: &Document,
+    steps: &mut Steps<L>,
+) -> Result<Answer, OutOfMemory>
     requires { HasGoals (document_lists document.now) }
     ensures { IfOk result (λ answer. text_of_answer answer ≡ checked (document_lists document.now)) }
 {
-    let kept = kept_lists(alloc, document, &document.table)?;
+    let kept = kept_lists(alloc, document, &document.table, steps)?;
     count_lists(alloc, &document.schema, &document.table, kept.as_slice())
 }
 

@@ -21,8 +21,10 @@ use rw_pattern::Tuple;
 use rw_print::step_line;
 use rw_rule::{Refusal, Rule};
 use rw_schema::OutOfMemory;
+use rw_steps::Steps;
 use rw_terms::OpTable;
 use std::alloc::Global;
+use std::sync::ledger::Ledger;
 
 /// What a firing gives: its line, whether a match was applied, and the state after it.
 #[derive(Drop)]
@@ -33,12 +35,13 @@ pub(crate) struct Fired {
 }
 
 /// Fires the box of the first rule: the first match without an obstruction is applied.
-pub(crate) fn fire(
+pub(crate) fn fire<L: Ledger>(
     alloc: Global,
     document: &Document,
     rule: &Rule,
     world: World,
     ops: &OpTable,
+    steps: &mut Steps<L>,
 ) -> Result<Fired, OutOfMemory>
     requires sound { IsSound (length (entries ops.now)) (document_lists document.now) }
     requires rule { (others : List RuleLists) × (document.now.rules.items ≡ rule.now ∷ others) }
@@ -55,13 +58,13 @@ pub(crate) fn fire(
         ops,
     )?;
     match applied {
-        Some(applied) => step(alloc, document, rule, world, applied, refused, ops),
+        Some(applied) => step(alloc, document, rule, world, applied, refused, ops, steps),
         None => stay(alloc, document, rule, world, refused, ops),
     }
 }
 
 /// The firing that applied a match: all lists are made afresh.
-fn step(
+fn step<L: Ledger>(
     alloc: Global,
     document: &Document,
     rule: &Rule,
@@ -69,6 +72,7 @@ fn step(
     applied: Applied,
     refused: Vec<(Tuple, Refusal)>,
     ops: &OpTable,
+    steps: &mut Steps<L>,
 ) -> Result<Fired, OutOfMemory>
     requires sound { IsSound (length (entries ops.now)) (document_lists document.now) }
     requires world { IsWorld (document_lists document.now) world }
@@ -76,7 +80,7 @@ fn step(
     requires known { All (λ entry. IsKnown document.now.schema entry.1) refused.items }
     ensures { IfOk result (λ fired. (firing : Firing) × IsFiring (codes_of (entries ops.now)) (document_lists document.now) rule.now world.table.rows fired firing) }
 {
-    let lists = kept_lists(alloc, document, &applied.after)?;
+    let lists = kept_lists(alloc, document, &applied.after, steps)?;
     let news = differences(alloc, world.lists.as_slice(), lists.as_slice())?;
     let line = step_line(
         alloc,

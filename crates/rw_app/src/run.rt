@@ -23,7 +23,8 @@ pub const MOST_BYTES: usize = 67_108_864;
 
 /// Does what the words ask for: reads a document from the source to its end, and writes the command's text to the
 /// sink. Terms of a document can name the operations of the table, of which the first eight are those of docs/FORMAT.md.
-/// Words that ask for nothing get the usage line; that takes no memory. Nothing is counted yet.
+/// Words that ask for nothing get the usage line; that takes no memory. Each reading of
+/// the instance by a search is counted.
 pub fn run_words<S: Source, K: Sink, L: Ledger>(
     alloc: Global,
     words: &Vec<String>,
@@ -42,19 +43,18 @@ pub fn run_words<S: Source, K: Sink, L: Ledger>(
         (record { left = S.left source.new; held = K.held sink.new; source_faults = S.faults source.new; sink_faults = K.faults sink.new }) result }
     ensures source_faults { S.faults source.old ≤ S.faults source.new }
     ensures sink_faults { K.faults sink.old ≤ K.faults sink.new }
-    ensures steps { steps.new ≡ steps.old }
 {
-    let _steps = steps;
-    dispatch(alloc, words, source, sink, ops)
+    dispatch(alloc, words, source, sink, ops, steps)
 }
 
 /// Does what the words ask for.
-fn dispatch<S: Source, K: Sink>(
+fn dispatch<S: Source, K: Sink, L: Ledger>(
     alloc: Global,
     words: &Vec<String>,
     source: &mut S,
     sink: &mut K,
     ops: &OpTable,
+    steps: &mut Steps<L>,
 ) -> Status
     requires { length (entries ops.now) < 2 ^ 32 }
     ensures ends { EndsAsAsked (IsAnswer (entries ops.now)) (request_of (map string_bytes words.now.items))
@@ -64,7 +64,7 @@ fn dispatch<S: Source, K: Sink>(
     ensures sink_faults { K.faults sink.old ≤ K.faults sink.new }
 {
     match command_of(words) {
-        Some(command) => run_command(alloc, command, source, sink, ops),
+        Some(command) => run_command(alloc, command, source, sink, ops, steps),
         None => write_usage(source, sink),
     }
 }
@@ -85,12 +85,13 @@ fn write_usage<S: Source, K: Sink>(source: &mut S, sink: &mut K) -> Status
 }
 
 /// Reads a document, and writes what the command answers.
-fn run_command<S: Source, K: Sink>(
+fn run_command<S: Source, K: Sink, L: Ledger>(
     alloc: Global,
     command: Command<'_>,
     source: &mut S,
     sink: &mut K,
     ops: &OpTable,
+    steps: &mut Steps<L>,
 ) -> Status
     requires { length (entries ops.now) < 2 ^ 32 }
     ensures ends { Ends (IsAnswer (entries ops.now) (asked_for command.entry))
@@ -100,7 +101,7 @@ fn run_command<S: Source, K: Sink>(
     ensures sink_faults { K.faults sink.old ≤ K.faults sink.new }
 {
     match read_all(alloc, source, MOST_BYTES) {
-        Ok(bytes) => write_answer(alloc, command, bytes.as_slice(), sink, ops),
+        Ok(bytes) => write_answer(alloc, command, bytes.as_slice(), sink, ops, steps),
         Err(ReadEnd::Fault) => Status::ReadFault,
         Err(ReadEnd::TooLong) => Status::TooLong,
         Err(ReadEnd::OutOfMemory) => Status::NoMemory,
@@ -108,12 +109,13 @@ fn run_command<S: Source, K: Sink>(
 }
 
 /// Writes what the command answers to the bytes.
-fn write_answer<K: Sink>(
+fn write_answer<K: Sink, L: Ledger>(
     alloc: Global,
     command: Command<'_>,
     bytes: &[u8],
     sink: &mut K,
     ops: &OpTable,
+    steps: &mut Steps<L>,
 ) -> Status
     requires { length (entries ops.now) < 2 ^ 32 }
     ensures ends { EndsWritten (IsAnswer (entries ops.now) (asked_for command.entry) bytes.now)
@@ -121,7 +123,7 @@ fn write_answer<K: Sink>(
         (record { left = None; held = K.held sink.new; source_faults = 0; sink_faults = K.faults sink.new }) result }
     ensures sink_faults { K.faults sink.old ≤ K.faults sink.new }
 {
-    match answer_command(alloc, command, bytes, ops) {
+    match answer_command(alloc, command, bytes, ops, steps) {
         Ok(answer) => write_text(&answer, sink),
         Err(OutOfMemory) => Status::NoMemory,
     }

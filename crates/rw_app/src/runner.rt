@@ -23,8 +23,10 @@ use rw_document::Document;
 use rw_print::{End, end_line};
 use rw_rule::Rule;
 use rw_schema::{MOST_OBJECTS, OutOfMemory, Schema};
+use rw_steps::Steps;
 use rw_terms::OpTable;
 use std::alloc::Global;
+use std::sync::ledger::Ledger;
 
 /// What a run gives: the lines of its firings, how it ended, the fuel that is left, and the last state.
 #[derive(Drop)]
@@ -37,34 +39,36 @@ pub(crate) struct Ran {
 
 /// Runs the document's schedule with so much fuel. The text is held until the run has ended. The stack does not grow
 /// with the fuel.
-pub(crate) fn run_document(
+pub(crate) fn run_document<L: Ledger>(
     alloc: Global,
     document: &Document,
     fuel: u32,
     ops: &OpTable,
+    steps: &mut Steps<L>,
 ) -> Result<Answer, OutOfMemory>
     requires { IsSound (length (entries ops.now)) (document_lists document.now) }
     ensures { IfOk result (λ answer. (seed : ℕ) → IsAnswerTo (entries ops.now) (run fuel seed) (Ok (document_lists document.now)) (text_of_answer answer)) }
 {
-    let world = load(alloc, document)?;
-    let ran = run_schedule(alloc, document, fuel, world, ops)?;
+    let world = load(alloc, document, steps)?;
+    let ran = run_schedule(alloc, document, fuel, world, ops, steps)?;
     finish(alloc, &document.schema, ran)
 }
 
 /// Runs the document's schedule from the state.
-fn run_schedule(
+fn run_schedule<L: Ledger>(
     alloc: Global,
     document: &Document,
     fuel: u32,
     start: World,
     ops: &OpTable,
+    steps: &mut Steps<L>,
 ) -> Result<Ran, OutOfMemory>
     requires sound { IsSound (length (entries ops.now)) (document_lists document.now) }
     requires start { IsWorld (document_lists document.now) start }
     ensures { IfOk result (λ ran. (firings : List Firing) × ((last : Stand) × HasRun (codes_of (entries ops.now)) (document_lists document.now) fuel start.table.rows ran firings last)) }
 {
     match document.rules.first() {
-        Some(rule) => run_rule(alloc, document, rule, fuel, start, ops),
+        Some(rule) => run_rule(alloc, document, rule, fuel, start, ops, steps),
         None => Ok(Ran {
             text: Vec::new(alloc),
             end: End::Done,
@@ -75,13 +79,14 @@ fn run_schedule(
 }
 
 /// Fires the box of the first rule until nothing is applied, or no fuel is left.
-fn run_rule(
+fn run_rule<L: Ledger>(
     alloc: Global,
     document: &Document,
     rule: &Rule,
     fuel: u32,
     start: World,
     ops: &OpTable,
+    steps: &mut Steps<L>,
 ) -> Result<Ran, OutOfMemory>
     requires sound { IsSound (length (entries ops.now)) (document_lists document.now) }
     requires rule { (others : List RuleLists) × (document.now.rules.items ≡ rule.now ∷ others) }
@@ -92,7 +97,7 @@ fn run_rule(
     let mut world = start;
     let mut left = fuel;
     while left > 0 {
-        let fired = fire(alloc, document, rule, world, ops)?;
+        let fired = fire(alloc, document, rule, world, ops, steps)?;
         text.extend_from_slice(fired.line.as_slice())?;
         left -= 1;
         world = fired.world;
