@@ -1,2 +1,4 @@
 pub mod Ascending
 pub mod Columned
+pub mod Filled
+pub mod Lists
