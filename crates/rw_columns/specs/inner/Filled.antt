@@ -1,10 +1,12 @@
 -- Columns that are filled from lists.
-use Rattle.std.specs.Prelude.{◌≡◌, ◌≢◌, ◌<◌, ◌≤◌, ℕ, List, Option, None, length, slice_index, slice_index_or}
+use Rattle.std.specs.Prelude.{◌≡◌, ◌≢◌, ◌<◌, ◌≤◌, ℕ, List, [], Option, None, length, slice_index, slice_index_or}
 use Rattle.rw_schema.specs.declared.atom.Atom.{Atom}
 use Rattle.rw_schema.specs.RowLists.{RowLists, list_at}
-use Rattle.rw_schema.specs.Signature.{Signature, source_of, holder_of}
+use Rattle.rw_schema.specs.Signature.{Signature, IsCategory, source_of, holder_of}
 use Rattle.rw_spec.specs.Ends.{target_of}
+use Rattle.rw_table.specs.TableFaults.{table_fault}
 use Rattle.rw_column.specs.Threads.{Threaded, nothing}
+use Rattle.rw_columns.specs.Columned.{Columned, no_column}
 
 -- of the places below a bound, the first names have the entries beside them, and the other places have none
 pub record IsFilled {A : Type 0} (none : A) (names : List ℕ) (entry : ℕ → A) (count bound : ℕ) (value : ℕ → A) : Type 0 where
@@ -49,3 +51,14 @@ AreCellsOf C rows attribute list =
 -- what each item has to be at its place
 abbrev pub AreEach : {A : Type 0} → A → (ℕ → A → Type 0) → List A → Type 0
 AreEach none Is items = (place : ℕ) → place < length items → Is place (slice_index_or items place none)
+
+-- columns that are filled from lists without a fault
+pub record AreFilledFrom (C : Signature) (rows : RowLists) (columns : Columned) : Type 0 where
+  pub category : IsCategory C
+  pub no_fault : table_fault C rows ≡ None
+  pub objects : length columns.names ≡ C.objects
+  pub arrow_count : length columns.arrows ≡ length C.arrows
+  pub attribute_count : length columns.cells ≡ length C.attributes
+  pub each_names : AreEach no_column (IsNamesColumn rows) columns.names
+  pub each_arrow : AreEach no_column (IsArrowColumn C rows) columns.arrows
+  pub each_attribute : AreEach [] (AreCellsOf C rows) columns.cells
