@@ -2,6 +2,9 @@
 #![tactic(auto)]
 
 mod columns;
+mod fill;
+#[cfg(test)]
+mod tests;
 mod walks;
 
 pub use columns::Columns;
