@@ -320,11 +320,55 @@ grown n t V V' a b a' b' few_targets links none others a_stays b_stays =
     node_back : (v q : ℕ) → v < t → IsNode (n + 1) V' v q → IsNode n V v q
     node_back v q known new place is = let at = new place is in old_place v place known at.0 at.1
 
--- ---- a number more, which stands at no place
+-- ---- a number that stands at no place: it has node 0 alone, which leads to nothing
 
+module _ (n : ℕ) (V : ℕ → ℕ) (a b : ℕ → ℕ → ℕ) (v : ℕ) (absent : (z : ℕ) → z < n → V z ≢ v) (no_first : a v 0 ≡ nothing) (no_last : b v nothing ≡ 0) where
+  -- the number's node is node 0
+  only_node : (q : ℕ) → IsNode n V v q → q ≡ 0
+  only_node q node = elim (cases_eq q 0) [
+    | inl head ↦ head
+    | inr place ↦ let at = node (q - 1) (omega (arith, place)) in absurd (absent (q - 1) at.0 at.1)
+  ]
+
+  -- the number's stop is nothing
+  only_stop : (s : ℕ) → IsStop n V v s → s ≡ nothing
+  only_stop s stop = elim (cases_eq s nothing) [
+    | inl end ↦ end
+    | inr some ↦ let at = stop some in absurd (absent s at.0 at.1)
+  ]
+
+  -- no place is behind the node
+  leads_nowhere : (q : ℕ) → IsNode n V v q → IsFirstFrom n V v q (a v q)
+  leads_nowhere q node =
+      let ends : a v q ≡ nothing = subst (λ (k : ℕ). a v k ≡ nothing) (sym (only_node q node)) no_first in
+      subst (IsFirstFrom n V v q) (sym ends) (record {
+        least = λ z from in_range is. absurd (absent z in_range is);
+        there = λ some. absurd (some refl);
+      })
+
+  -- the end is led to by node 0
+  back_from_end : (s : ℕ) → IsStop n V v s → IsNode n V v (b v s) × (a v (b v s) ≡ s)
+  back_from_end s stop =
+      let ends : s ≡ nothing = only_stop s stop in
+      let head : b v s ≡ 0 = subst (λ (k : ℕ). b v k ≡ 0) (sym ends) no_last in
+      subst (λ (q : ℕ). IsNode n V v q × (a v q ≡ s)) (sym head) ((λ place is. absurd (omega (arith, is))), no_first ∙ sym ends)
+
+-- no number stands at a place
+pub unlinked_all : (n t : ℕ) (V : ℕ → ℕ) (a b : ℕ → ℕ → ℕ) → t ≤ nothing → ((z : ℕ) → z < n → V z ≡ nothing)
+    → ((v : ℕ) → v < t → a v 0 ≡ nothing) → ((v : ℕ) → v < t → b v nothing ≡ 0) → AreLinks n t V a b
+unlinked_all n t V a b few_targets free no_first no_last =
+    record {
+      leads = λ v q known node. leads_nowhere n V a b v (absent v known) (no_first v known) (no_last v known) q node;
+      back = λ v s known stop. back_from_end n V a b v (absent v known) (no_first v known) (no_last v known) s stop;
+    }
+  where
+    absent : (v : ℕ) → v < t → (z : ℕ) → z < n → V z ≢ v
+    absent v known z in_range is = omega (arith, sym is ∙ free z in_range)
+
+-- a number more, which stands at no place
 pub widened : (n t : ℕ) (V : ℕ → ℕ) (a b a' b' : ℕ → ℕ → ℕ) → n ≤ nothing → AreLinks n t V a b → ((z : ℕ) → z < n → V z ≢ nothing → V z < t) → t < nothing
     → ((v q : ℕ) → v < t → a' v q ≡ a v q) → ((v s : ℕ) → v < t → b' v s ≡ b v s) → a' t 0 ≡ nothing → b' t nothing ≡ 0 → AreLinks n (t + 1) V a' b'
-widened n t V a b a' b' few links within few_targets a_stays b_stays a_none b_none =
+widened n t V a b a' b' few links within few_targets a_stays b_stays no_first no_last =
     record {
       leads = λ v q known node.
         elim (cases_eq v t) [
@@ -332,14 +376,8 @@ widened n t V a b a' b' few links within few_targets a_stays b_stays a_none b_no
               let less : v < t = omega (arith, old) in
               subst (IsFirstFrom n V v q) (sym (a_stays v q less)) (links.leads v q less node)
           | inl new ↦
-              let none : (z : ℕ) → z < n → V z ≡ v → ⊥ =
-                λ z in_range is. omega (arith, is, new, within z in_range (λ e. omega (arith, is, new, e))) in
-              let zero : q ≡ 0 = elim (cases_eq q 0) [ inl e ↦ e | inr more ↦ let at = node (q - 1) (omega (arith, more)) in absurd (none (q - 1) at.0 at.1) ] in
-              let stops : a' v q ≡ nothing = subst (λ (k : ℕ). a' k q ≡ nothing) (sym new) (subst (λ (k : ℕ). a' t k ≡ nothing) (sym zero) a_none) in
-              subst (IsFirstFrom n V v q) (sym stops) (record {
-                least = λ z from in_range is. absurd (none z in_range is);
-                there = λ some. absurd (some refl);
-              })
+              subst (λ (k : ℕ). IsFirstFrom n V k q (a' k q)) (sym new)
+              (leads_nowhere n V a' b' t absent no_first no_last q (subst (λ (k : ℕ). IsNode n V k q) new node))
         ];
       back = λ v s known stop.
         elim (cases_eq v t) [
@@ -348,13 +386,10 @@ widened n t V a b a' b' few links within few_targets a_stays b_stays a_none b_no
               let at = links.back v s less stop in
               subst (λ (q : ℕ). IsNode n V v q × (a' v q ≡ s)) (sym (b_stays v s less)) (at.0, a_stays v (b v s) less ∙ at.1)
           | inl new ↦
-              let ends : s ≡ nothing = elim (cases_eq s nothing) [
-                | inl e ↦ e
-                | inr some ↦ let at = stop some in
-                    absurd (omega (arith, at.1, new, within s at.0 (λ e. omega (arith, at.1, new, e))))
-              ] in
-              let zero : b' v s ≡ 0 = subst (λ (k : ℕ). b' k s ≡ 0) (sym new) (subst (λ (k : ℕ). b' t k ≡ 0) (sym ends) b_none) in
-              subst (λ (q : ℕ). IsNode n V v q × (a' v q ≡ s)) (sym zero)
-              ((λ place is. absurd (omega (arith, is))), subst (λ (k : ℕ). a' k 0 ≡ s) (sym new) (a_none ∙ sym ends))
+              subst (λ (k : ℕ). IsNode n V k (b' k s) × (a' k (b' k s) ≡ s)) (sym new)
+              (back_from_end n V a' b' t absent no_first no_last s (subst (λ (k : ℕ). IsStop n V k s) new stop))
         ];
     }
+  where
+    absent : (z : ℕ) → z < n → V z ≢ t
+    absent z in_range is = omega (arith, is, within z in_range (λ e. omega (arith, is, e)))

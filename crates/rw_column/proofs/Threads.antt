@@ -1,10 +1,10 @@
 -- Threads as a column keeps them, in lists.
-use Rattle.std.proofs.Common.{◌≡◌, ℕ, ◌+◌, ◌-◌, ◌<◌, ◌≤◌, List, [], ◌∷◌, ◌++◌, length, length-append, get_or, set, refl, sym, ap, ◌∙◌, inl, inr, subst, arith, eqb, eq-eqb, ne_eqb, cond, length-set, get_or-set_other, get_or-set_same}
+use Rattle.std.proofs.Common.{◌≡◌, ℕ, ◌+◌, ◌-◌, ◌<◌, ◌≤◌, List, [], ◌∷◌, ◌++◌, length, length-append, get_or, set, replicate, refl, sym, ap, ◌∙◌, inl, inr, subst, arith, eqb, eq-eqb, ne_eqb, cond, length-set, get_or-set_other, get_or-set_same}
 use Rattle.std.specs.Prelude.{◌≢◌}
 use Rattle.std.proofs.lemmas.Bool.{cases_eq}
-use Rattle.std.proofs.lemmas.List.{get_or_append_left, get_or-append_right}
+use Rattle.std.proofs.lemmas.List.{get_or_append_left, get_or-append_right, length-replicate, get_or-replicate}
 use Rattle.rw_column.specs.Threads.{nothing, IsNode, IsStop, IsFirstFrom, AreLinks, IsLed, IsBacked, IsAhead, IsGap, IsThreaded, after, before}
-use Rattle.rw_column.proofs.Links.{unlinked, linked, grown, widened}
+use Rattle.rw_column.proofs.Links.{unlinked, linked, unlinked_all, grown, widened}
 
 -- what follows a place
 after_place : (N F : List ℕ) (v x : ℕ) → after N F v (x + 1) ≡ get_or N x 0
@@ -187,6 +187,28 @@ module _ (V N P F L : List ℕ) (threaded : IsThreaded V N P F L) (v : ℕ) (kno
   next_of x within is =
       subst (IsFirstFrom (length V) (λ z. get_or V z 0) v (x + 1)) (after_place N F v x)
       (threaded.links.leads v (x + 1) known (λ place e. let same : x ≡ place = omega arith in (omega arith, ap (λ z. get_or V z 0) (sym same) ∙ is)))
+
+-- ---- no number at any place
+
+pub thread_new : (n t : ℕ) → n ≤ nothing → t ≤ nothing
+    → IsThreaded (replicate n nothing) (replicate n nothing) (replicate n 0) (replicate t nothing) (replicate t 0)
+thread_new n t few few_targets =
+    let places : length (replicate n nothing) ≡ n = length-replicate n nothing in
+    let targets : length (replicate t nothing) ≡ t = length-replicate t nothing in
+    let free : (z : ℕ) → z < length (replicate n nothing) → get_or (replicate n nothing) z 0 ≡ nothing =
+      λ z in_range. get_or-replicate n z nothing 0 (omega (arith, in_range, places)) in
+    record {
+      few = omega (arith, places, few);
+      few_targets = omega (arith, targets, few_targets);
+      nexts = refl;
+      previouses = length-replicate n 0 ∙ sym places;
+      lasts = length-replicate t 0 ∙ sym targets;
+      within = λ place in_range some. absurd (some (free place in_range));
+      links = unlinked_all (length (replicate n nothing)) (length (replicate t nothing)) (λ z. get_or (replicate n nothing) z 0)
+        (after (replicate n nothing) (replicate t nothing)) (before (replicate n 0) (replicate t 0)) (omega (arith, targets, few_targets)) free
+        (λ v known. get_or-replicate t v nothing 0 (omega (arith, known, targets)))
+        (λ v known. get_or-replicate t v 0 0 (omega (arith, known, targets)));
+    }
 
 -- ---- a place more, and a number more
 

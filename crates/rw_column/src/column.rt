@@ -1,9 +1,10 @@
 //! A column of numbers, threaded by its numbers.
 
-ghost use Rattle.std.specs.Prelude.{◌≡◌, ◌≢◌, ◌==◌, ◌&&◌, ◌<◌, ◌≤◌, ◌+◌, nat_lt, [], ◌∷◌, ◌++◌, length, slice_index, slice_set};
+ghost use Rattle.std.specs.Prelude.{◌≡◌, ◌≢◌, ◌==◌, ◌&&◌, ◌<◌, ◌≤◌, ◌+◌, nat_lt, [], ◌∷◌, ◌++◌, length, replicate, slice_index, slice_set, IfOk};
 ghost use Rattle.std.specs.Vec.{vec_capacity};
 ghost use Rattle.rw_column.specs.Threads.{nothing, after, before, IsFirstFrom, IsLed, IsBacked, IsGap};
 
+use std::alloc::{AllocError, Global};
 use std::marker::Model;
 
 /// Stands where there is no place and where there is no number.
@@ -36,6 +37,20 @@ impl Model for Column {
 }
 
 impl Column {
+    /// A column of so many places without numbers, and of so many numbers that may stand there.
+    pub fn new(alloc: Global, places: u32, targets: u32) -> Result<Column, AllocError>
+        ensures values { IfOk result (λ column. column.values ≡ replicate places nothing) }
+        ensures targets { IfOk result (λ column. column.targets ≡ targets) }
+    {
+        Ok(Column {
+            values: vec![in alloc; NOTHING; places as usize]?,
+            next: vec![in alloc; NOTHING; places as usize]?,
+            previous: vec![in alloc; 0; places as usize]?,
+            first: vec![in alloc; NOTHING; targets as usize]?,
+            last: vec![in alloc; 0; targets as usize]?,
+        })
+    }
+
     /// A place behind the others, with no number yet.
     pub fn add_place(&mut self)
         requires room { length self.old.values < self.old.room }

@@ -1,2 +1,7 @@
 pub mod Ascending
 pub mod Columned
+pub mod Filled
+pub mod FromRows
+pub mod Kept
+pub mod Lists
+pub mod Same

@@ -1,1 +1,3 @@
 pub mod Columned
+pub mod Kept
+pub mod inner

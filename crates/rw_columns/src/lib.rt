@@ -2,6 +2,7 @@
 #![tactic(auto)]
 
 mod columns;
+mod fill;
 mod walks;
 
 pub use columns::Columns;
