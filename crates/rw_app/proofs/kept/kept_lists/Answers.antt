@@ -1,6 +1,8 @@
-use Rattle.std.proofs.Common.{List, subst, sym}
+use Rattle.std.proofs.Common.{◌≡◌, None, List, subst, sym}
 use Rattle.std.specs.List.{All}
 use Rattle.rw_schema.specs.Presentation.{signature_of}
+use Rattle.rw_schema.specs.Signature.{IsCategory}
+use Rattle.rw_table.specs.TableFaults.{table_fault}
 use Rattle.rw_rule.specs.declared.watch.Watch.{Watch}
 use Rattle.rw_lists.specs.Fresh.{IsListable}
 use Rattle.rw_rule.specs.RuleLists.{WatchLists}
@@ -17,5 +19,11 @@ push_watches-requires-clause-watches c =
 
 pub returns : goal.returns
 returns c =
+    let document = c.args.document.now in
+    let C = signature_of document.schema in
+    let over : c.args.table.now.signature ≡ C = c.requires.table in
+    let category : IsCategory C = rw over at c.rows.ensures.category in
+    let sound : table_fault C c.args.table.now.rows ≡ None = rw over at c.rows.ensures.sound in
+    let watches = each_watch (λ (watch : WatchLists). IsListable C watch.goal) document.watches.items c.requires.goals.watches in
     rw (c.in_ok-push_watches.ensures, c.in_ok-push_rules.ensures, c.new-lists.ensures.items, c.as_slice.ensures.value, c.as_slice-2.ensures.value)
-    (lists_kept c.args.document.now c.args.table.now c.requires.table)
+    (lists_kept document c.args.table.now.rows c.in_ok-columns.columns category sound c.in_ok-columns.ensures c.requires.goals.rules watches)
