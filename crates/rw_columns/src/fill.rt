@@ -112,11 +112,11 @@ fn column_of_names(alloc: Global, places: u32, names: &[u32]) -> Result<Column, 
     requires { are_names places names.now ≡ true }
     ensures { IfOk result (IsFilledColumn places 1 names.now (λ k. 0)) }
 {
-    let mut column = Column::new(alloc, places, 1)?;
+    let mut live = Column::new(alloc, places, 1)?;
     for name in names {
-        column.link(*name, 0);
+        live.link(*name, 0);
     }
-    Ok(column)
+    Ok(live)
 }
 
 /// The column that has at each name the image beside it.
