@@ -21,8 +21,11 @@ test:
 pages:
 	python3 docs/check.py
 
+compare:
+	bench/compare
+
 install: $(PROGRAM)
 	install -D $(PROGRAM) $(DESTDIR)$(PREFIX)/bin/rewrite
 	install -D -m 644 docs/rewrite.1 $(DESTDIR)$(PREFIX)/share/man/man1/rewrite.1
 
-.PHONY: try build test pages install
+.PHONY: try build test pages compare install
