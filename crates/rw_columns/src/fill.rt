@@ -173,7 +173,7 @@ fn put_cell(
 }
 
 /// A copy of the cell.
-fn copy_cell(alloc: Global, cell: &Option<Atom>) -> Result<Option<Atom>, OutOfMemory>
+pub fn copy_cell(alloc: Global, cell: &Option<Atom>) -> Result<Option<Atom>, OutOfMemory>
     ensures { IfOk result (λ copy. copy ≡ cell.now) }
 {
     match cell {
