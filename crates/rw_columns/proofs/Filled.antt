@@ -11,7 +11,7 @@ use Rattle.rw_spec.proofs.Ascending.{ascends_apart}
 use Rattle.rw_spec.proofs.Sequences.{list_all_contained}
 use Rattle.rw_table.specs.TableFaults.{are_names}
 use Rattle.rw_column.specs.Threads.{Threaded, nothing}
-use Rattle.rw_columns.specs.inner.Filled.{IsFilled, IsFilledTo, AreFilledTo, AreEach}
+use Rattle.rw_columns.specs.inner.Filled.{IsFilled, IsFilledTo, AreFilledTo, AreAll}
 
 -- names ascend
 pub names_up : (bound : ℕ) (names : List ℕ) → are_names bound names ≡ true → ascends names ≡ true
@@ -114,14 +114,16 @@ cells_put count places names cells cell old new are within is beside put =
       filled = filled_set None None names (λ k. get_or cells k None) count places old cell are within is.long is.filled beside;
     })
 
--- of each item what it has to be, with one item more
-pub each_more : {A : Type 0} (none : A) (Is : ℕ → A → Type 0) (items more : List A) (item : A) (count : ℕ) → more ≡ items ++ item ∷ []
-    → length items ≡ count → AreEach none Is items → Is count item → AreEach none Is more
-each_more none Is items more item count pushed long each is place within =
-    rw pushed (elim (cases_lt place (length items)) [
-      | inl before ↦ subst (Is place) (sym (get_or_append_left items (item ∷ []) none place before)) (each place before)
-      | inr past ↦
-          let all : length more ≡ length items + 1 = ap length pushed ∙ length-append items (item ∷ []) in
-          let same : place ≡ length items = omega (arith, within, all, past) in
-          rw (same, get_or-append_seam items item [] none, long) is
-    ])
+-- one item more, of which each is what it has to be
+pub all_more : {A : Type 0} (none : A) (Is : ℕ → A → Type 0) (many : ℕ) (items more : List A) (item : A) → more ≡ items ++ item ∷ []
+    → AreAll none Is many items → Is many item → AreAll none Is (many + 1) more
+all_more none Is many items more item pushed all is =
+    rw pushed (record {
+      count = length-append items (item ∷ []) ∙ ap (λ (n : ℕ). n + 1) all.count;
+      each = λ place within. elim (cases_lt place many) [
+        | inl before ↦ subst (Is place) (sym (get_or_append_left items (item ∷ []) none place (rw all.count before))) (all.each place before)
+        | inr past ↦
+            let same : place ≡ many = omega (arith, within, past) in
+            rw (same, ← all.count, get_or-append_seam items item [] none, all.count) is
+      ];
+    })

@@ -70,7 +70,7 @@ module _ (K : Columned) (rows : RowLists) (from : AreFilledFrom K.signature rows
   pub names_at : (object x : ℕ) → object < K.signature.objects → x < slice_index rows.next object
       → slice_index (column_at K.names object).values x ≡ 0 → Contains (list_at rows.names object) x
   names_at object x known within zero_there =
-      let column = from.each_names object (rw from.objects known) in
+      let column = from.names.each object known in
       elim (among_or_not (list_at rows.names object) x) [
         | inl among ↦ among
         | inr missing ↦
@@ -84,16 +84,16 @@ module _ (K : Columned) (rows : RowLists) (from : AreFilledFrom K.signature rows
       → slice_index (column_at K.names object).values x ≡ 0
   at_names object x known (k, within, there) =
       let names = list_at rows.names object in
-      let column = from.each_names object (rw from.objects known) in
+      let column = from.names.each object known in
       subst (λ (y : ℕ). slice_index (column_at K.names object).values y ≡ 0) (get_or_default names k 0 x within ∙ there) (column.filled.beside k within)
 
   -- each object has a place for each name that was given
   next_kept : (object : ℕ) → next_of K object ≡ slice_index rows.next object
   next_kept object =
       elim (cases_lt object K.signature.objects) [
-        | inl known ↦ (from.each_names object (rw from.objects known)).long
+        | inl known ↦ (from.names.each object known).long
         | inr past ↦
-            ap (λ (column : Threaded). length column.values) (get_or_past K.names object no_column (omega (arith, from.objects, past)))
+            ap (λ (column : Threaded). length column.values) (get_or_past K.names object no_column (omega (arith, from.names.count, past)))
             ∙ sym (get_or_past rows.next object 0 (omega (arith, shape.next, past)))
       ]
 
@@ -113,7 +113,7 @@ module _ (K : Columned) (rows : RowLists) (from : AreFilledFrom K.signature rows
               names_at object x known (subst (λ (n : ℕ). x < n) (next_kept object) at.0) at.1)
             (λ x among. places_have values 0 x (subst (λ (n : ℕ). x < n) (sym (next_kept object)) (name_in_bound next names x named among)) (at_names object x known among))
         | inr past ↦
-            ap (λ (column : Threaded). places_from column.values 0 0) (get_or_past K.names object no_column (omega (arith, from.objects, past)))
+            ap (λ (column : Threaded). places_from column.values 0 0) (get_or_past K.names object no_column (omega (arith, from.names.count, past)))
             ∙ sym (get_or_past rows.names object [] (omega (arith, shape.names, past)))
       ]
 
@@ -126,7 +126,7 @@ module _ (K : Columned) (rows : RowLists) (from : AreFilledFrom K.signature rows
       (slice_index (list_at rows.arrows a)) (column_at K.arrows a) in
       subst (λ (source : ℕ). by_ends source ends.target.0) (source_is K.signature a ends there)
       (subst (λ (target : ℕ). by_ends (source_of K.signature a) target) (target_is K.signature a ends there)
-      (from.each_arrow a (rw from.arrow_count (slice_get_within K.signature.arrows a ends there))))
+      (from.arrows.each a (slice_get_within K.signature.arrows a ends there)))
 
   -- each arrow has the value that the lists have at the name
   values_kept : (a : ℕ) (ends : ArrowEnds) (x : ℕ) → slice_get K.signature.arrows a ≡ Some ends → Contains (list_at rows.names ends.source.0) x
@@ -148,7 +148,7 @@ module _ (K : Columned) (rows : RowLists) (from : AreFilledFrom K.signature rows
       let list = list_at K.cells c in
       elim (cases_lt c (length K.signature.attributes)) [
         | inl known ↦
-            let kept = from.each_attribute c (rw from.attribute_count known) in
+            let kept = from.cells.each c known in
             let next = slice_index rows.next (holder_of K.signature c) in
             let checked = checked_known K.signature rows from.no_fault in
             let over = there_at K.signature.attributes c known in
@@ -165,7 +165,7 @@ module _ (K : Columned) (rows : RowLists) (from : AreFilledFrom K.signature rows
                   ∙ sym (look_missing None names cells x missing)
             ]
         | inr past ↦
-            ap (λ (all : List (Option Atom)). get_or all x None) (get_or_past K.cells c [] (omega (arith, from.attribute_count, past)))
+            ap (λ (all : List (Option Atom)). get_or all x None) (get_or_past K.cells c [] (omega (arith, from.cells.count, past)))
             ∙ sym (look_blank None names x)
             ∙ ap (λ (all : List (Option Atom)). look None names all x) (sym (get_or_past rows.cells c [] (omega (arith, shape.cells, past))))
       ]
@@ -223,13 +223,13 @@ module _ (K : Columned) (rows : RowLists) (from : AreFilledFrom K.signature rows
   pub columns_are : AreColumns K
   columns_are = record {
     category = from.category;
-    objects = from.objects;
-    arrow_count = from.arrow_count;
-    attribute_count = from.attribute_count;
-    targets = λ object known. (from.each_names object (rw from.objects known)).wide;
+    objects = from.names.count;
+    arrow_count = from.arrows.count;
+    attribute_count = from.cells.count;
+    targets = λ object known. (from.names.each object known).wide;
     ends = over_ends;
     cells_long = λ c ends there.
-        let kept = from.each_attribute c (rw from.attribute_count (slice_get_within K.signature.attributes c ends there)) in
+        let kept = from.cells.each c (slice_get_within K.signature.attributes c ends there) in
         kept.long ∙ ap (slice_index rows.next) (holder_is K.signature c ends there) ∙ sym (next_kept ends.object.0);
     sound = same_instance K.signature (instance_of K.signature rows) (instance_of_columns K) from.category lists_same (table_instance K.signature rows from.no_fault);
   }

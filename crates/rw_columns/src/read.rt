@@ -4,7 +4,7 @@ ghost use Rattle.std.specs.Prelude.{[], ◌≡◌, ◌<◌, All, IfOk, None, Opt
 ghost use Rattle.rw_schema.specs.RowLists.{list_at};
 ghost use Rattle.rw_column.specs.Threads.{places_from};
 ghost use Rattle.rw_columns.specs.Columned.{column_at};
-ghost use Rattle.rw_columns.specs.inner.Filled.{AreEach};
+ghost use Rattle.rw_columns.specs.inner.Filled.{AreAll};
 ghost use Rattle.rw_columns.specs.inner.Read.{AreNamesIn, IsNextIn, IsRowIn, AreCellsIn, AreWithin};
 
 use crate::fill::copy_cell;
@@ -21,8 +21,7 @@ pub fn read_names<L: Ledger>(
     steps: &mut Steps<L>,
 ) -> Result<Vec<Vec<u32>>, OutOfMemory>
     requires { All (λ column. 0 < column.targets) columns.now }
-    ensures count { IfOk result (λ lists. length lists.items ≡ length columns.now) }
-    ensures each { IfOk result (λ lists. AreEach [] (AreNamesIn columns.now) (map (λ list. list.items) lists.items)) }
+    ensures { IfOk result (λ lists. AreAll [] (AreNamesIn columns.now) (length columns.now) (map (λ list. list.items) lists.items)) }
 {
     let mut lists = Vec::new(alloc);
     for place in 0..columns.len() {
@@ -50,8 +49,7 @@ fn names_in<L: Ledger>(
 
 /// The next name of each object.
 pub fn read_next(alloc: Global, columns: &[Column]) -> Result<Vec<u32>, OutOfMemory>
-    ensures count { IfOk result (λ next. length next.items ≡ length columns.now) }
-    ensures each { IfOk result (λ next. AreEach 0 (IsNextIn columns.now) next.items) }
+    ensures { IfOk result (λ next. AreAll 0 (IsNextIn columns.now) (length columns.now) next.items) }
 {
     let mut next = Vec::new(alloc);
     for place in 0..columns.len() {
@@ -70,8 +68,7 @@ pub fn read_rows<L: Ledger>(
 ) -> Result<Vec<Vec<u32>>, OutOfMemory>
     requires beside { length columns.now ≡ length ends.now }
     requires within { AreWithin (map (λ each. each.source.0) ends.now) (λ arrow. length (column_at columns.now arrow).values) (map (λ list. list.items) names.now) }
-    ensures count { IfOk result (λ rows. length rows.items ≡ length ends.now) }
-    ensures each { IfOk result (λ rows. AreEach [] (IsRowIn columns.now (map (λ each. each.source.0) ends.now) (map (λ list. list.items) names.now)) (map (λ list. list.items) rows.items)) }
+    ensures { IfOk result (λ rows. AreAll [] (IsRowIn columns.now (map (λ each. each.source.0) ends.now) (map (λ list. list.items) names.now)) (length ends.now) (map (λ list. list.items) rows.items)) }
 {
     let mut rows = Vec::new(alloc);
     for place in 0..ends.len() {
@@ -117,8 +114,7 @@ pub fn read_cells<L: Ledger>(
 ) -> Result<Vec<Vec<Option<Atom>>>, OutOfMemory>
     requires beside { length lists.now ≡ length ends.now }
     requires within { AreWithin (map (λ each. each.object.0) ends.now) (λ attribute. length (list_at (map (λ list. list.items) lists.now) attribute)) (map (λ list. list.items) names.now) }
-    ensures count { IfOk result (λ cells. length cells.items ≡ length ends.now) }
-    ensures each { IfOk result (λ cells. AreEach [] (AreCellsIn (map (λ list. list.items) lists.now) (map (λ each. each.object.0) ends.now) (map (λ list. list.items) names.now)) (map (λ list. list.items) cells.items)) }
+    ensures { IfOk result (λ cells. AreAll [] (AreCellsIn (map (λ list. list.items) lists.now) (map (λ each. each.object.0) ends.now) (map (λ list. list.items) names.now)) (length ends.now) (map (λ list. list.items) cells.items)) }
 {
     let mut cells = Vec::new(alloc);
     for place in 0..ends.len() {

@@ -6,7 +6,7 @@ use Rattle.rw_schema.specs.declared.atom.Kind.TheVariants.{Int}
 use Rattle.rw_schema.specs.declared.signature.AttrEnds.{AttrEnds}
 use Rattle.rw_schema.specs.RowLists.{list_at}
 use Rattle.rw_columns.specs.inner.Read.{AreWithin, AreCellsIn}
-use Rattle.rw_columns.proofs.Filled.{each_more}
+use Rattle.rw_columns.proofs.Filled.{all_more}
 use Rattle.rw_columns.proofs.ListsRead.{IsWithinAt, within_at}
 use Rattle.rw_columns.proofs.read.read_cells.Goals as goal
 
@@ -61,12 +61,8 @@ loop-place-preserved g c =
     let found = c.as_slice.ensures.value ∙ ap items c.index-lists-place.is ∙ sym (get_or-map items lists place c.index-lists-place.result [] there) in
     let cells = c.in_ok-cells_at.field-0 in
     let pushed : c.push.new.self.items ≡ c.loop-place.cells.items ++ cells ∷ [] = grind arith in
-    record {
-      count = grind arith;
-      each = each_more [] (AreCellsIn (cells_in lists) holders names) (map items c.loop-place.cells.items) (map items c.push.new.self.items) cells.items place
-          (ap (map items) pushed ∙ map-append items c.loop-place.cells.items (cells ∷ []))
-          (length-map c.loop-place.cells.items items ∙ c.loop-place.invariant.count) c.loop-place.invariant.each
-          (c.in_ok-cells_at.ensures
+    all_more [] (AreCellsIn (cells_in lists) holders names) place (map items c.loop-place.cells.items) (map items c.push.new.self.items) cells.items
+    (ap (map items) pushed ∙ map-append items c.loop-place.cells.items (cells ∷ [])) c.loop-place.invariant
+    (c.in_ok-cells_at.ensures
           ∙ ap (λ (list : List (Option Atom)). map (λ name. get_or list name None) c.list_of-holders.result.now) found
-          ∙ ap (map (λ name. get_or (list_at (cells_in lists) place) name None)) (c.list_of-holders.ensures ∙ ap (list_at names) (sym holder.is)));
-    }
+          ∙ ap (map (λ name. get_or (list_at (cells_in lists) place) name None)) (c.list_of-holders.ensures ∙ ap (list_at names) (sym holder.is)))

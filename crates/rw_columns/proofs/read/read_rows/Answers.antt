@@ -6,7 +6,7 @@ use Rattle.rw_schema.specs.RowLists.{list_at}
 use Rattle.rw_column.specs.Threads.{Threaded}
 use Rattle.rw_columns.specs.Columned.{no_column, column_at}
 use Rattle.rw_columns.specs.inner.Read.{AreWithin, IsRowIn}
-use Rattle.rw_columns.proofs.Filled.{each_more}
+use Rattle.rw_columns.proofs.Filled.{all_more}
 use Rattle.rw_columns.proofs.ListsRead.{IsWithinAt, within_at}
 use Rattle.rw_columns.proofs.read.read_rows.Goals as goal
 
@@ -55,12 +55,8 @@ loop-place-preserved g c =
     let items = λ (list : Vec ℕ Global). list.items in
     let row = c.in_ok-values_at.field-0 in
     let pushed : c.push.new.self.items ≡ c.loop-place.rows.items ++ row ∷ [] = grind arith in
-    record {
-      count = grind arith;
-      each = each_more [] (IsRowIn columns sources names) (map items c.loop-place.rows.items) (map items c.push.new.self.items) row.items place
-          (ap (map items) pushed ∙ map-append items c.loop-place.rows.items (row ∷ []))
-          (length-map c.loop-place.rows.items items ∙ c.loop-place.invariant.count) c.loop-place.invariant.each
-          (c.in_ok-values_at.ensures
+    all_more [] (IsRowIn columns sources names) place (map items c.loop-place.rows.items) (map items c.push.new.self.items) row.items
+    (ap (map items) pushed ∙ map-append items c.loop-place.rows.items (row ∷ [])) c.loop-place.invariant
+    (c.in_ok-values_at.ensures
           ∙ ap (λ (each : Threaded). map (slice_index each.values) c.list_of-sources.result.now) column
-          ∙ ap (map (slice_index (column_at columns place).values)) (c.list_of-sources.ensures ∙ ap (list_at names) (sym source.is)));
-    }
+          ∙ ap (map (slice_index (column_at columns place).values)) (c.list_of-sources.ensures ∙ ap (list_at names) (sym source.is)))
