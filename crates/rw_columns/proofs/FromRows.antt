@@ -34,25 +34,25 @@ pub record ArePartsOf (schema : Presentation) (rows : RowLists) (columns : Colum
   pub arrows : AreAll no_column (IsArrowColumn (signature_of schema) rows) (length schema.arrows) columns.arrows
   pub cells : AreAll [] (AreCellsOf (signature_of schema) rows) (length schema.attributes) columns.cells
 
-module _ (schema : Presentation) (rows : RowLists) (K : Columned) (parts : ArePartsOf schema rows K) where
+module _ (schema : Presentation) (rows : RowLists) (columns : Columned) (parts : ArePartsOf schema rows columns) where
   -- the columns are over the schema
-  over_schema : K.signature ≡ signature_of schema
-  over_schema = same_signature K.signature (signature_of schema) (parts.counted ∙ parts.names.count) parts.arrow_ends parts.attribute_ends parts.equations
+  over_schema : columns.signature ≡ signature_of schema
+  over_schema = same_signature columns.signature (signature_of schema) (parts.counted ∙ parts.names.count) parts.arrow_ends parts.attribute_ends parts.equations
 
   -- they are filled from the lists
-  filled_from : AreFilledFrom K.signature rows K
-  filled_from = subst (λ (C : Signature). AreFilledFrom C rows K) (sym over_schema) (record {
+  filled_from : AreFilledFrom columns.signature rows columns
+  filled_from = subst (λ (C : Signature). AreFilledFrom C rows columns) (sym over_schema) (record {
     category = parts.category;
     no_fault = parts.no_fault;
     names = parts.names;
-    arrows = subst (λ (n : ℕ). AreAll no_column (IsArrowColumn (signature_of schema) rows) n K.arrows) (sym (length-map schema.arrows ends_of_arrow)) parts.arrows;
-    cells = subst (λ (n : ℕ). AreAll [] (AreCellsOf (signature_of schema) rows) n K.cells) (sym (length-map schema.attributes ends_of_attribute)) parts.cells;
+    arrows = subst (λ (n : ℕ). AreAll no_column (IsArrowColumn (signature_of schema) rows) n columns.arrows) (sym (length-map schema.arrows ends_of_arrow)) parts.arrows;
+    cells = subst (λ (n : ℕ). AreAll [] (AreCellsOf (signature_of schema) rows) n columns.cells) (sym (length-map schema.attributes ends_of_attribute)) parts.cells;
   })
 
   -- so they are columns
-  pub columns_from : AreColumns K
-  columns_from = columns_are K rows filled_from
+  pub columns_from : AreColumns columns
+  columns_from = columns_are columns rows filled_from
 
   -- that keep the lists
-  pub kept_from : Keeps (signature_of schema) rows K
-  kept_from = subst (λ (C : Signature). Keeps C rows K) over_schema (kept K rows filled_from)
+  pub kept_from : Keeps (signature_of schema) rows columns
+  kept_from = subst (λ (C : Signature). Keeps C rows columns) over_schema (kept columns rows filled_from)

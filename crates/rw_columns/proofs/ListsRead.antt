@@ -42,96 +42,96 @@ within_at f items bound names place item default are within is =
       within = subst (λ (object : ℕ). All (λ name. name < bound place) (list_at names object)) object (are.within place there);
     }
 
-module _ (K : Columned) (is : AreColumns K) where
+module _ (columns : Columned) (is : AreColumns columns) where
   -- each column of names has the number 0
-  pub names_numbered : All (λ column. 0 < column.targets) K.names
+  pub names_numbered : All (λ column. 0 < column.targets) columns.names
   names_numbered place default within =
-      let known : place < K.signature.objects = rw (← is.objects) within in
+      let known : place < columns.signature.objects = rw (← is.objects) within in
       let one = is.targets place known in
-      let same : get_or K.names place default ≡ column_at K.names place = get_or_default K.names place default no_column within in
+      let same : get_or columns.names place default ≡ column_at columns.names place = get_or_default columns.names place default no_column within in
       rw (same, one) (omega arith)
 
   -- what is read as next names are the next names
-  pub next_read : (next : List ℕ) → AreAll 0 (IsNextIn K.names) (length K.names) next → next ≡ (lists_of_columns K).next
-  next_read next all = fill_by_all (next_of K) next K.signature.objects 0 (all.count ∙ is.objects) (λ object known. all.each object (rw is.objects known))
+  pub next_read : (next : List ℕ) → AreAll 0 (IsNextIn columns.names) (length columns.names) next → next ≡ (lists_of_columns columns).next
+  next_read next all = fill_by_all (next_of columns) next columns.signature.objects 0 (all.count ∙ is.objects) (λ object known. all.each object (rw is.objects known))
 
   -- what is read as names are the names
-  pub names_read : (names : List (List ℕ)) → AreAll [] (AreNamesIn K.names) (length K.names) names → names ≡ (lists_of_columns K).names
+  pub names_read : (names : List (List ℕ)) → AreAll [] (AreNamesIn columns.names) (length columns.names) names → names ≡ (lists_of_columns columns).names
   names_read names all =
-      fill_by_all (instance_of_columns K).names names K.signature.objects [] (all.count ∙ is.objects) (λ object known. all.each object (rw is.objects known))
+      fill_by_all (instance_of_columns columns).names names columns.signature.objects [] (all.count ∙ is.objects) (λ object known. all.each object (rw is.objects known))
 
-  module _ (names : List (List ℕ)) (all : names ≡ (lists_of_columns K).names) where
+  module _ (names : List (List ℕ)) (all : names ≡ (lists_of_columns columns).names) where
     -- there are names for each object
-    names_count : length names ≡ K.signature.objects
+    names_count : length names ≡ columns.signature.objects
     names_count =
-        let objects = range_with_len 0 K.signature.objects in
-        ap length all ∙ length-map objects (instance_of_columns K).names ∙ length-range_with_len 0 K.signature.objects
+        let objects = range_with_len 0 columns.signature.objects in
+        ap length all ∙ length-map objects (instance_of_columns columns).names ∙ length-range_with_len 0 columns.signature.objects
 
     -- the names of an object
-    names_of : (object : ℕ) → object < K.signature.objects → list_at names object ≡ (instance_of_columns K).names object
+    names_of : (object : ℕ) → object < columns.signature.objects → list_at names object ≡ (instance_of_columns columns).names object
     names_of object known =
-        let X = instance_of_columns K in
+        let X = instance_of_columns columns in
         ap (λ (lists : List (List ℕ)). list_at lists object) all
-        ∙ get_or-map X.names (range_with_len 0 K.signature.objects) object 0 [] (rw (length-range_with_len 0 K.signature.objects) known)
-        ∙ ap X.names (own_place K.signature.objects object 0 known)
+        ∙ get_or-map X.names (range_with_len 0 columns.signature.objects) object 0 [] (rw (length-range_with_len 0 columns.signature.objects) known)
+        ∙ ap X.names (own_place columns.signature.objects object 0 known)
 
     -- the names of an object are below the length of its column
-    names_below_column : (object : ℕ) → object < K.signature.objects → All (λ name. name < next_of K object) (list_at names object)
+    names_below_column : (object : ℕ) → object < columns.signature.objects → All (λ name. name < next_of columns object) (list_at names object)
     names_below_column object known place default within =
         let among = Contains-get_or (list_at names object) place default within in
-        (places_are (column_at K.names object).values 0 (get_or (list_at names object) place default)
+        (places_are (column_at columns.names object).values 0 (get_or (list_at names object) place default)
         (subst (λ (list : List ℕ). Contains list (get_or (list_at names object) place default)) (names_of object known) among)).0
 
     -- the names of the source of each arrow are places of its column
-    pub rows_within : AreWithin (map (λ ends. ends.source.0) K.signature.arrows) (λ arrow. length (column_at K.arrows arrow).values) names
+    pub rows_within : AreWithin (map (λ ends. ends.source.0) columns.signature.arrows) (λ arrow. length (column_at columns.arrows arrow).values) names
     rows_within =
         let source = λ (ends : ArrowEnds). ends.source.0 in
         record {
           known = λ place default within.
-              let over = there_at K.signature.arrows place (rw (← length-map K.signature.arrows source) within) in
-              rw (get_or_default (map source K.signature.arrows) place default 0 within, source_is K.signature place over.0 over.1, names_count)
+              let over = there_at columns.signature.arrows place (rw (← length-map columns.signature.arrows source) within) in
+              rw (get_or_default (map source columns.signature.arrows) place default 0 within, source_is columns.signature place over.0 over.1, names_count)
               (is.category.sources place over.0 over.1);
           within = λ place within.
-              let over = there_at K.signature.arrows place (rw (← length-map K.signature.arrows source) within) in
-              rw (source_is K.signature place over.0 over.1, (is.ends place over.0 over.1).long)
+              let over = there_at columns.signature.arrows place (rw (← length-map columns.signature.arrows source) within) in
+              rw (source_is columns.signature place over.0 over.1, (is.ends place over.0 over.1).long)
               (names_below_column over.0.source.0 (is.category.sources place over.0 over.1));
         }
 
     -- the names of the object of each attribute have cells
-    pub cells_within : AreWithin (map (λ ends. ends.object.0) K.signature.attributes) (λ attribute. length (list_at K.cells attribute)) names
+    pub cells_within : AreWithin (map (λ ends. ends.object.0) columns.signature.attributes) (λ attribute. length (list_at columns.cells attribute)) names
     cells_within =
         let object = λ (ends : AttrEnds). ends.object.0 in
         record {
           known = λ place default within.
-              let over = there_at K.signature.attributes place (rw (← length-map K.signature.attributes object) within) in
-              rw (get_or_default (map object K.signature.attributes) place default 0 within, holder_is K.signature place over.0 over.1, names_count)
+              let over = there_at columns.signature.attributes place (rw (← length-map columns.signature.attributes object) within) in
+              rw (get_or_default (map object columns.signature.attributes) place default 0 within, holder_is columns.signature place over.0 over.1, names_count)
               (is.category.holders place over.0 over.1);
           within = λ place within.
-              let over = there_at K.signature.attributes place (rw (← length-map K.signature.attributes object) within) in
-              rw (holder_is K.signature place over.0 over.1, is.cells_long place over.0 over.1)
+              let over = there_at columns.signature.attributes place (rw (← length-map columns.signature.attributes object) within) in
+              rw (holder_is columns.signature place over.0 over.1, is.cells_long place over.0 over.1)
               (names_below_column over.0.object.0 (is.category.holders place over.0 over.1));
         }
 
     -- what is read as rows are the values of the arrows
     pub rows_read : (rows : List (List ℕ))
-        → AreAll [] (IsRowIn K.arrows (map (λ ends. ends.source.0) K.signature.arrows) names) (length K.signature.arrows) rows → rows ≡ (lists_of_columns K).arrows
+        → AreAll [] (IsRowIn columns.arrows (map (λ ends. ends.source.0) columns.signature.arrows) names) (length columns.signature.arrows) rows → rows ≡ (lists_of_columns columns).arrows
     rows_read rows all_rows =
-        let X = instance_of_columns K in
-        mapped_in (λ a (ends : ArrowEnds). map (X.value a) (X.names ends.source.0)) 0 K.signature.arrows rows [] all_rows.count
+        let X = instance_of_columns columns in
+        mapped_in (λ a (ends : ArrowEnds). map (X.value a) (X.names ends.source.0)) 0 columns.signature.arrows rows [] all_rows.count
         (λ a ends there.
-          let within = slice_get_within K.signature.arrows a ends there in
-          let source : source_of K.signature a ≡ ends.source.0 = source_is K.signature a ends there in
+          let within = slice_get_within columns.signature.arrows a ends there in
+          let source : source_of columns.signature a ≡ ends.source.0 = source_is columns.signature a ends there in
           rw zero-add (all_rows.each a within
           ∙ ap (map (X.value a)) (ap (list_at names) source ∙ names_of ends.source.0 (is.category.sources a ends there))))
 
     -- what is read as cells are the cells of the attributes
     pub cells_read : (cells : List (List (Option Atom)))
-        → AreAll [] (AreCellsIn K.cells (map (λ ends. ends.object.0) K.signature.attributes) names) (length K.signature.attributes) cells → cells ≡ (lists_of_columns K).cells
+        → AreAll [] (AreCellsIn columns.cells (map (λ ends. ends.object.0) columns.signature.attributes) names) (length columns.signature.attributes) cells → cells ≡ (lists_of_columns columns).cells
     cells_read cells all_cells =
-        let X = instance_of_columns K in
-        mapped_in (λ c (ends : AttrEnds). map (X.cell c) (X.names ends.object.0)) 0 K.signature.attributes cells [] all_cells.count
+        let X = instance_of_columns columns in
+        mapped_in (λ c (ends : AttrEnds). map (X.cell c) (X.names ends.object.0)) 0 columns.signature.attributes cells [] all_cells.count
         (λ c ends there.
-          let within = slice_get_within K.signature.attributes c ends there in
-          let holder : holder_of K.signature c ≡ ends.object.0 = holder_is K.signature c ends there in
+          let within = slice_get_within columns.signature.attributes c ends there in
+          let holder : holder_of columns.signature c ≡ ends.object.0 = holder_is columns.signature c ends there in
           rw zero-add (all_cells.each c within
           ∙ ap (map (X.cell c)) (ap (list_at names) holder ∙ names_of ends.object.0 (is.category.holders c ends there))))
