@@ -1,5 +1,5 @@
 -- The names that columns hold ascend.
-use Rattle.std.proofs.Common.{◌≡◌, ◌∙◌, ℕ, zero, suc, ◌-◌, ◌<◌, Bool, true, List, [], ◌∷◌, filter, length, get_or, refl, sym, inl, inr, arith, eqb, nat_lt, lt-ltb}
+use Rattle.std.proofs.Common.{◌≡◌, ◌∙◌, ℕ, suc, ◌-◌, ◌<◌, Bool, true, List, [], ◌∷◌, filter, length, get_or, refl, inl, inr, arith, eqb, nat_lt, lt-ltb}
 use Rattle.std.specs.Prelude.{Contains}
 use Rattle.std.specs.List.{range_with_len}
 use Rattle.std.proofs.lemmas.Bool.{and_from, cases_Bool}

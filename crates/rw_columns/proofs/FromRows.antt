@@ -1,5 +1,5 @@
 -- The columns of lists without a fault, put together.
-use Rattle.std.proofs.Common.{◌≡◌, ◌∙◌, ℕ, List, [], None, length, map, refl, sym, ap, subst}
+use Rattle.std.proofs.Common.{◌≡◌, ◌∙◌, ℕ, List, [], None, length, map, sym, ap, subst}
 use Rattle.std.proofs.lemmas.List.{length-map}
 use Rattle.rw_schema.specs.declared.parts.Equation.{Equation}
 use Rattle.rw_schema.specs.declared.signature.ArrowEnds.{ArrowEnds}

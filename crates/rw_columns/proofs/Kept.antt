@@ -1,5 +1,5 @@
 -- Columns that are filled from lists keep the instance of the lists.
-use Rattle.std.proofs.Common.{◌≡◌, ◌≢◌, ◌∙◌, ◌⊎◌, ◌==◌, ℕ, ◌<◌, ◌≤◌, Bool, true, List, [], ◌∷◌, Option, None, Some, Contains, length, get_or, slice_get, slice_index, slice_index_or, refl, sym, ap, subst, inl, inr, arith}
+use Rattle.std.proofs.Common.{◌≡◌, ◌∙◌, ◌⊎◌, ◌==◌, ℕ, ◌<◌, true, List, [], ◌∷◌, Option, None, Some, Contains, length, get_or, slice_get, slice_index, slice_index_or, refl, sym, ap, subst, inl, inr, arith}
 use Rattle.std.specs.List.{list_any}
 use Rattle.std.proofs.lemmas.Bool.{cases_Bool, cases_lt, both_ways}
 use Rattle.std.proofs.lemmas.Cmp.{nat_cmp_total}
@@ -9,12 +9,10 @@ use Rattle.std.proofs.lemmas.List.Elements.{Contains-get_or}
 use Rattle.std.specs.Ordering.{nat_cmp}
 use Rattle.rw_schema.specs.declared.atom.Atom.{Atom}
 use Rattle.rw_schema.specs.declared.signature.ArrowEnds.{ArrowEnds}
-use Rattle.rw_schema.specs.declared.signature.AttrEnds.{AttrEnds}
 use Rattle.rw_schema.specs.RowLists.{RowLists, list_at}
-use Rattle.rw_schema.specs.Signature.{Signature, source_of, holder_of}
+use Rattle.rw_schema.specs.Signature.{source_of, holder_of}
 use Rattle.rw_spec.specs.Ascending.{ascends}
-use Rattle.rw_spec.specs.Ends.{target_of}
-use Rattle.rw_spec.specs.Instance.{Instance, Has, IsInstance, instance_of, look}
+use Rattle.rw_spec.specs.Instance.{instance_of, look}
 use Rattle.rw_spec.specs.Same.{AreSame}
 use Rattle.rw_spec.proofs.Ascending.{ascends_distinct}
 use Rattle.rw_spec.proofs.Look.{look_at, look_missing, contains_found, found_contained}
@@ -26,7 +24,7 @@ use Rattle.rw_table.proofs.TableInstance.{table_instance}
 use Rattle.rw_column.specs.Threads.{Threaded, nothing, places_from}
 use Rattle.rw_columns.specs.Columned.{Columned, no_column, column_at, instance_of_columns, next_of, IsOverEnds, AreColumns}
 use Rattle.rw_columns.specs.Kept.{Keeps}
-use Rattle.rw_columns.specs.inner.Filled.{IsFilled, IsFilledTo, IsFilledColumn, AreFilledTo, IsNamesColumn, IsArrowColumn, AreCellsOf, AreFilledFrom}
+use Rattle.rw_columns.specs.inner.Filled.{IsFilled, IsFilledColumn, AreFilledFrom}
 use Rattle.rw_columns.proofs.Ascending.{places_ascend}
 use Rattle.rw_columns.proofs.Columned.{places_are, places_have, there_at}
 use Rattle.rw_columns.proofs.Filled.{names_up}
@@ -109,8 +107,8 @@ module _ (columns : Columned) (rows : RowLists) (from : AreFilledFrom columns.si
             one_order nat_cmp nat_cmp_total (places_from values 0 0) names
             (sorted_from_ascends (places_from values 0 0) (places_ascend values 0 0)) (sorted_from_ascends names (names_up next names named))
             (λ x there.
-              let at = places_are values 0 x there in
-              names_at object x known (subst (λ (n : ℕ). x < n) (next_kept object) at.0) at.1)
+            let at = places_are values 0 x there in
+            names_at object x known (subst (λ (n : ℕ). x < n) (next_kept object) at.0) at.1)
             (λ x among. places_have values 0 x (subst (λ (n : ℕ). x < n) (sym (next_kept object)) (name_in_bound next names x named among)) (at_names object x known among))
         | inr past ↦
             ap (λ (column : Threaded). places_from column.values 0 0) (get_or_past columns.names object no_column (omega (arith, from.names.count, past)))
@@ -120,7 +118,7 @@ module _ (columns : Columned) (rows : RowLists) (from : AreFilledFrom columns.si
   -- the column of an arrow, by the arrow's ends
   arrow_filled : (a : ℕ) (ends : ArrowEnds) → slice_get columns.signature.arrows a ≡ Some ends
       → IsFilledColumn (slice_index rows.next ends.source.0) (slice_index rows.next ends.target.0) (list_at rows.names ends.source.0)
-          (slice_index (list_at rows.arrows a)) (column_at columns.arrows a)
+      (slice_index (list_at rows.arrows a)) (column_at columns.arrows a)
   arrow_filled a ends there =
       let by_ends = λ (source target : ℕ). IsFilledColumn (slice_index rows.next source) (slice_index rows.next target) (list_at rows.names source)
       (slice_index (list_at rows.arrows a)) (column_at columns.arrows a) in
@@ -203,8 +201,7 @@ module _ (columns : Columned) (rows : RowLists) (from : AreFilledFrom columns.si
         few = omega (arith, column.wide, column.few);
         wide = column.wide ∙ sym (next_kept ends.target.0);
         given = λ name within.
-            let below : name < slice_index rows.next source = subst (λ (n : ℕ). name < n) column.long within in
-            (
+            let below : name < slice_index rows.next source = subst (λ (n : ℕ). name < n) column.long within in (
               λ is_name is_none.
                   let among = names_at source name known below is_name in
                   let image : slice_index row among.0 < slice_index rows.next ends.target.0 =

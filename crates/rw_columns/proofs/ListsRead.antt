@@ -1,5 +1,5 @@
 -- Lists that are read from columns are those of the instance.
-use Rattle.std.proofs.Common.{◌≡◌, ◌∙◌, ℕ, ◌<◌, All, Contains, List, [], Option, None, Some, length, get_or, slice_get, map, slice_index, refl, sym, ap, subst, zero-add, arith}
+use Rattle.std.proofs.Common.{◌≡◌, ◌∙◌, ℕ, ◌<◌, All, Contains, List, [], Option, length, get_or, map, slice_index, sym, ap, subst, zero-add, arith}
 use Rattle.std.proofs.lemmas.List.{length-map, get_or-map, get_or_default}
 use Rattle.std.proofs.lemmas.List.Elements.{Contains-get_or}
 use Rattle.std.specs.List.{range_with_len}
@@ -119,10 +119,10 @@ module _ (columns : Columned) (is : AreColumns columns) where
         let X = instance_of_columns columns in
         mapped_in (λ a (ends : ArrowEnds). map (X.value a) (X.names ends.source.0)) 0 columns.signature.arrows rows [] all_rows.count
         (λ a ends there.
-          let within = slice_get_within columns.signature.arrows a ends there in
-          let source : source_of columns.signature a ≡ ends.source.0 = source_is columns.signature a ends there in
-          rw zero-add (all_rows.each a within
-          ∙ ap (map (X.value a)) (ap (list_at names) source ∙ names_of ends.source.0 (is.category.sources a ends there))))
+        let within = slice_get_within columns.signature.arrows a ends there in
+        let source : source_of columns.signature a ≡ ends.source.0 = source_is columns.signature a ends there in
+        rw zero-add (all_rows.each a within
+        ∙ ap (map (X.value a)) (ap (list_at names) source ∙ names_of ends.source.0 (is.category.sources a ends there))))
 
     -- what is read as cells are the cells of the attributes
     pub cells_read : (cells : List (List (Option Atom)))
@@ -131,7 +131,7 @@ module _ (columns : Columned) (is : AreColumns columns) where
         let X = instance_of_columns columns in
         mapped_in (λ c (ends : AttrEnds). map (X.cell c) (X.names ends.object.0)) 0 columns.signature.attributes cells [] all_cells.count
         (λ c ends there.
-          let within = slice_get_within columns.signature.attributes c ends there in
-          let holder : holder_of columns.signature c ≡ ends.object.0 = holder_is columns.signature c ends there in
-          rw zero-add (all_cells.each c within
-          ∙ ap (map (X.cell c)) (ap (list_at names) holder ∙ names_of ends.object.0 (is.category.holders c ends there))))
+        let within = slice_get_within columns.signature.attributes c ends there in
+        let holder : holder_of columns.signature c ≡ ends.object.0 = holder_is columns.signature c ends there in
+        rw zero-add (all_cells.each c within
+        ∙ ap (map (X.cell c)) (ap (list_at names) holder ∙ names_of ends.object.0 (is.category.holders c ends there))))

@@ -70,7 +70,13 @@ fn arrow_column(
     let ends = schema.arrow(arrow);
     let sources = rows.next(ends.source);
     let targets = rows.next(ends.target);
-    column_of_images(alloc, sources, targets, rows.names(ends.source), rows.row(arrow))
+    column_of_images(
+        alloc,
+        sources,
+        targets,
+        rows.names(ends.source),
+        rows.row(arrow),
+    )
 }
 
 /// The cells of each attribute.
@@ -101,7 +107,12 @@ fn cells_of(
     ensures { IfOk result (λ list. AreCellsOf (signature_of schema.now) rows.now attribute.0 list.items) }
 {
     let object = schema.attr(attribute).object;
-    cells_by_name(alloc, rows.next(object), rows.names(object), rows.cells(attribute))
+    cells_by_name(
+        alloc,
+        rows.next(object),
+        rows.names(object),
+        rows.cells(attribute),
+    )
 }
 
 /// The column that has 0 at each name.

@@ -1,5 +1,5 @@
 -- The cells of one attribute more.
-use Rattle.std.proofs.Common.{◌≡◌, ◌∙◌, ◌++◌, ◌∷◌, [], ℕ, ◌<◌, List, Option, None, Vec, Global, All, length, get_or, map, refl, sym, ap, arith}
+use Rattle.std.proofs.Common.{◌≡◌, ◌∙◌, ◌++◌, ◌∷◌, [], ℕ, ◌<◌, List, Option, None, Vec, Global, length, get_or, map, refl, sym, ap, arith}
 use Rattle.std.proofs.lemmas.List.{length-map, map-append, get_or-map}
 use Rattle.rw_schema.specs.declared.atom.Atom.{Atom}
 use Rattle.rw_schema.specs.declared.atom.Kind.TheVariants.{Int}
@@ -64,5 +64,5 @@ loop-place-preserved g c =
     all_more [] (AreCellsIn (cells_in lists) holders names) place (map items c.loop-place.cells.items) (map items c.push.new.self.items) cells.items
     (ap (map items) pushed ∙ map-append items c.loop-place.cells.items (cells ∷ [])) c.loop-place.invariant
     (c.in_ok-cells_at.ensures
-          ∙ ap (λ (list : List (Option Atom)). map (λ name. get_or list name None) c.list_of-holders.result.now) found
-          ∙ ap (map (λ name. get_or (list_at (cells_in lists) place) name None)) (c.list_of-holders.ensures ∙ ap (list_at names) (sym holder.is)))
+    ∙ ap (λ (list : List (Option Atom)). map (λ name. get_or list name None) c.list_of-holders.result.now) found
+    ∙ ap (map (λ name. get_or (list_at (cells_in lists) place) name None)) (c.list_of-holders.ensures ∙ ap (list_at names) (sym holder.is)))

@@ -1,5 +1,5 @@
 -- The row of one arrow more.
-use Rattle.std.proofs.Common.{◌≡◌, ◌∙◌, ◌++◌, ◌∷◌, [], ℕ, ◌<◌, List, Vec, Global, All, length, get_or, map, slice_index, refl, sym, ap, arith}
+use Rattle.std.proofs.Common.{◌≡◌, ◌∙◌, ◌++◌, ◌∷◌, [], ℕ, ◌<◌, List, Vec, Global, length, get_or, map, slice_index, refl, sym, ap, arith}
 use Rattle.std.proofs.lemmas.List.{length-map, map-append, get_or_default}
 use Rattle.rw_schema.specs.declared.signature.ArrowEnds.{ArrowEnds}
 use Rattle.rw_schema.specs.RowLists.{list_at}
@@ -58,5 +58,5 @@ loop-place-preserved g c =
     all_more [] (IsRowIn columns sources names) place (map items c.loop-place.rows.items) (map items c.push.new.self.items) row.items
     (ap (map items) pushed ∙ map-append items c.loop-place.rows.items (row ∷ [])) c.loop-place.invariant
     (c.in_ok-values_at.ensures
-          ∙ ap (λ (each : Threaded). map (slice_index each.values) c.list_of-sources.result.now) column
-          ∙ ap (map (slice_index (column_at columns place).values)) (c.list_of-sources.ensures ∙ ap (list_at names) (sym source.is)))
+    ∙ ap (λ (each : Threaded). map (slice_index each.values) c.list_of-sources.result.now) column
+    ∙ ap (map (slice_index (column_at columns place).values)) (c.list_of-sources.ensures ∙ ap (list_at names) (sym source.is)))

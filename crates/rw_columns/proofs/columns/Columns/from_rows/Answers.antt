@@ -1,7 +1,5 @@
 -- The columns are put together.
-use Rattle.std.proofs.Common.{◌∙◌, List, length, map, refl, ap}
-use Rattle.rw_schema.specs.declared.parts.ArrowDef.{ArrowDef}
-use Rattle.rw_schema.specs.declared.parts.AttrDef.{AttrDef}
+use Rattle.std.proofs.Common.{◌∙◌, length, map, refl, ap}
 use Rattle.rw_schema.specs.Presentation.{ends_of_arrow, ends_of_attribute}
 use Rattle.rw_columns.specs.Columned.{Columned}
 use Rattle.rw_columns.proofs.FromRows.{ArePartsOf, columns_from, kept_from}

@@ -1,5 +1,5 @@
 -- The cells of attributes are read at the names of their objects.
-use Rattle.std.proofs.Common.{◌≡◌, ◌∙◌, [], List, Option, Vec, Global, ℕ, length, map, ap, subst}
+use Rattle.std.proofs.Common.{◌≡◌, ◌∙◌, [], Option, Vec, Global, ℕ, length, map, ap, subst}
 use Rattle.std.proofs.lemmas.Result.{IfOk-weaker}
 use Rattle.rw_schema.specs.declared.atom.Atom.{Atom}
 use Rattle.rw_columns.specs.Columned.{Columned, AreColumns}

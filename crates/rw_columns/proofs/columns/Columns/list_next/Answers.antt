@@ -1,5 +1,5 @@
 -- The lengths of the columns of names are read.
-use Rattle.std.proofs.Common.{◌≡◌, ◌∙◌, List, length, ap, subst}
+use Rattle.std.proofs.Common.{◌≡◌, ◌∙◌, length, ap, subst}
 use Rattle.std.proofs.lemmas.Result.{IfOk-weaker}
 use Rattle.rw_columns.specs.Columned.{Columned, AreColumns}
 use Rattle.rw_columns.specs.Kept.{lists_of_columns}

@@ -1,5 +1,5 @@
 -- The columns of arrows are read at the names of their sources.
-use Rattle.std.proofs.Common.{◌≡◌, ◌∙◌, [], List, Vec, Global, ℕ, length, map, ap, subst}
+use Rattle.std.proofs.Common.{◌≡◌, ◌∙◌, [], Vec, Global, ℕ, length, map, ap, subst}
 use Rattle.std.proofs.lemmas.Result.{IfOk-weaker}
 use Rattle.rw_columns.specs.Columned.{Columned, AreColumns}
 use Rattle.rw_columns.specs.Kept.{lists_of_columns}
