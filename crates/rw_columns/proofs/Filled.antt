@@ -1,8 +1,8 @@
 -- Places that are filled one after the other.
-use Rattle.std.proofs.Common.{◌≡◌, ◌≢◌, ◌∙◌, ℕ, ◌+◌, refl, replicate, Option, None, slice_set, ◌<◌, ◌≤◌, true, ◌&&◌, nat_lt, List, [], ◌∷◌, ◌++◌, length, get_or, set, slice_index, sym, ap, subst, inl, inr, arith}
+use Rattle.std.proofs.Common.{◌≡◌, ◌≢◌, ◌∙◌, ℕ, ◌+◌, refl, Option, None, slice_set, ◌<◌, true, nat_lt, List, [], ◌∷◌, ◌++◌, length, get_or, set, slice_index, sym, ap, subst, inl, inr, arith}
 use Rattle.std.specs.List.{list_all}
-use Rattle.std.proofs.lemmas.Bool.{and_parts, ltb-true, cases_order, cases_lt}
-use Rattle.std.proofs.lemmas.List.{length-set, length-replicate, get_or-replicate, get_or-set_same, get_or-set_other, get_or_append_left, length-append}
+use Rattle.std.proofs.lemmas.Bool.{and_parts, ltb-true, cases_lt}
+use Rattle.std.proofs.lemmas.List.{length-set, get_or-set_same, get_or-set_other, get_or_append_left, length-append}
 use Rattle.std.proofs.Math.Seq.{get_or-append_seam}
 use Rattle.std.proofs.lemmas.List.Elements.{Contains-get_or}
 use Rattle.rw_schema.specs.declared.atom.Atom.{Atom}
@@ -11,7 +11,7 @@ use Rattle.rw_spec.proofs.Ascending.{ascends_apart}
 use Rattle.rw_spec.proofs.Sequences.{list_all_contained}
 use Rattle.rw_table.specs.TableFaults.{are_names}
 use Rattle.rw_column.specs.Threads.{Threaded, nothing}
-use Rattle.rw_columns.specs.inner.Filled.{IsFilled, IsFilledTo, AreFilledTo, AreEach}
+use Rattle.rw_columns.specs.inner.Filled.{IsFilled, IsFilledTo, AreFilledTo, AreAll}
 
 -- names ascend
 pub names_up : (bound : ℕ) (names : List ℕ) → are_names bound names ≡ true → ascends names ≡ true
@@ -27,14 +27,6 @@ name_below bound names k are within =
 -- an earlier name is another
 earlier_other : (names : List ℕ) (j k : ℕ) → ascends names ≡ true → j < k → k < length names → slice_index names j ≢ slice_index names k
 earlier_other names j k up before within same = let less = ascends_apart names j k up before within in omega (arith, less, same)
-
--- before any name is filled, all places have none
-pub filled_none : {A : Type 0} (none : A) (names : List ℕ) (entry : ℕ → A) (bound : ℕ) (value : ℕ → A)
-    → ((x : ℕ) → x < bound → value x ≡ none) → IsFilled none names entry 0 bound value
-filled_none none names entry bound value blank = record {
-  beside = λ k before. absurd (omega arith);
-  elsewhere = λ x within others. blank x within;
-}
 
 -- the place of the next name has none yet
 pub next_free : {A : Type 0} (none : A) (names : List ℕ) (entry : ℕ → A) (count bound : ℕ) (value : ℕ → A)
@@ -71,17 +63,6 @@ filled_set none default names entry count bound values value are within long fil
     (get_or-set_same values name value default room ∙ is)
     (λ x other. get_or-set_other values name x value default other)
 
--- a column without numbers
-pub column_begun : (places numbers : ℕ) (names : List ℕ) (entry : ℕ → ℕ) (column : Threaded) → column.values ≡ replicate places nothing
-    → column.targets ≡ numbers → numbers ≤ nothing → IsFilledTo 0 places numbers names entry column
-column_begun places numbers names entry column blank wide few = record {
-  long = ap length blank ∙ length-replicate places nothing;
-  wide = wide;
-  few = few;
-  filled = filled_none nothing names entry places (slice_index column.values)
-      (λ x within. ap (λ (values : List ℕ). slice_index values x) blank ∙ get_or-replicate places x nothing 0 within);
-}
-
 -- the next name is linked to the number beside it
 pub column_linked : (count places numbers : ℕ) (names : List ℕ) (entry : ℕ → ℕ) (old new : Threaded) → are_names places names ≡ true
     → count < length names → IsFilledTo count places numbers names entry old
@@ -95,14 +76,6 @@ column_linked count places numbers names entry old new are within is linked =
       filled = filled_set nothing 0 names entry count places old.values (entry count) are within is.long is.filled refl;
     })
 
--- blank cells
-pub cells_begun : (places : ℕ) (names : List ℕ) (cells list : List (Option Atom)) → list ≡ replicate places None → AreFilledTo 0 places names cells list
-cells_begun places names cells list blank = record {
-  long = ap length blank ∙ length-replicate places None;
-  filled = filled_none None names (λ k. get_or cells k None) places (λ x. get_or list x None)
-      (λ x within. ap (λ (all : List (Option Atom)). get_or all x None) blank ∙ get_or-replicate places x None None within);
-}
-
 -- the cell beside the next name is put at it
 pub cells_put : (count places : ℕ) (names : List ℕ) (cells : List (Option Atom)) (cell : Option Atom) (old new : List (Option Atom))
     → are_names places names ≡ true → count < length names → AreFilledTo count places names cells old
@@ -114,14 +87,16 @@ cells_put count places names cells cell old new are within is beside put =
       filled = filled_set None None names (λ k. get_or cells k None) count places old cell are within is.long is.filled beside;
     })
 
--- of each item what it has to be, with one item more
-pub each_more : {A : Type 0} (none : A) (Is : ℕ → A → Type 0) (items more : List A) (item : A) (count : ℕ) → more ≡ items ++ item ∷ []
-    → length items ≡ count → AreEach none Is items → Is count item → AreEach none Is more
-each_more none Is items more item count pushed long each is place within =
-    rw pushed (elim (cases_lt place (length items)) [
-      | inl before ↦ subst (Is place) (sym (get_or_append_left items (item ∷ []) none place before)) (each place before)
-      | inr past ↦
-          let all : length more ≡ length items + 1 = ap length pushed ∙ length-append items (item ∷ []) in
-          let same : place ≡ length items = omega (arith, within, all, past) in
-          rw (same, get_or-append_seam items item [] none, long) is
-    ])
+-- one item more, of which each is what it has to be
+pub all_more : {A : Type 0} (none : A) (Is : ℕ → A → Type 0) (many : ℕ) (items more : List A) (item : A) → more ≡ items ++ item ∷ []
+    → AreAll none Is many items → Is many item → AreAll none Is (many + 1) more
+all_more none Is many items more item pushed all is =
+    rw pushed (record {
+      count = length-append items (item ∷ []) ∙ ap (λ (n : ℕ). n + 1) all.count;
+      each = λ place within. elim (cases_lt place many) [
+        | inl before ↦ subst (Is place) (sym (get_or_append_left items (item ∷ []) none place (rw all.count before))) (all.each place before)
+        | inr past ↦
+            let same : place ≡ many = omega (arith, within, past) in
+            rw (same, ← all.count, get_or-append_seam items item [] none, all.count) is
+      ];
+    })

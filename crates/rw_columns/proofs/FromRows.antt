@@ -1,5 +1,5 @@
 -- The columns of lists without a fault, put together.
-use Rattle.std.proofs.Common.{◌≡◌, ◌∙◌, ℕ, List, [], None, length, map, refl, sym, ap, subst}
+use Rattle.std.proofs.Common.{◌≡◌, ◌∙◌, ℕ, List, [], None, length, map, sym, ap, subst}
 use Rattle.std.proofs.lemmas.List.{length-map}
 use Rattle.rw_schema.specs.declared.parts.Equation.{Equation}
 use Rattle.rw_schema.specs.declared.signature.ArrowEnds.{ArrowEnds}
@@ -10,7 +10,7 @@ use Rattle.rw_schema.specs.Signature.{Signature, IsCategory}
 use Rattle.rw_table.specs.TableFaults.{table_fault}
 use Rattle.rw_columns.specs.Columned.{Columned, no_column, AreColumns}
 use Rattle.rw_columns.specs.Kept.{Keeps}
-use Rattle.rw_columns.specs.inner.Filled.{AreEach, IsNamesColumn, IsArrowColumn, AreCellsOf, AreFilledFrom}
+use Rattle.rw_columns.specs.inner.Filled.{AreAll, IsNamesColumn, IsArrowColumn, AreCellsOf, AreFilledFrom}
 use Rattle.rw_columns.proofs.Kept.{kept, columns_are}
 
 -- signatures whose parts are the same are one
@@ -30,35 +30,29 @@ pub record ArePartsOf (schema : Presentation) (rows : RowLists) (columns : Colum
   pub attribute_ends : columns.signature.attributes ≡ map ends_of_attribute schema.attributes
   pub equations : columns.signature.equations ≡ schema.equations
   pub counted : columns.signature.objects ≡ length columns.names
-  pub objects : length columns.names ≡ length schema.objects
-  pub arrows : length columns.arrows ≡ length schema.arrows
-  pub attributes : length columns.cells ≡ length schema.attributes
-  pub each_names : AreEach no_column (IsNamesColumn rows) columns.names
-  pub each_arrow : AreEach no_column (IsArrowColumn (signature_of schema) rows) columns.arrows
-  pub each_attribute : AreEach [] (AreCellsOf (signature_of schema) rows) columns.cells
+  pub names : AreAll no_column (IsNamesColumn rows) (length schema.objects) columns.names
+  pub arrows : AreAll no_column (IsArrowColumn (signature_of schema) rows) (length schema.arrows) columns.arrows
+  pub cells : AreAll [] (AreCellsOf (signature_of schema) rows) (length schema.attributes) columns.cells
 
-module _ (schema : Presentation) (rows : RowLists) (K : Columned) (parts : ArePartsOf schema rows K) where
+module _ (schema : Presentation) (rows : RowLists) (columns : Columned) (parts : ArePartsOf schema rows columns) where
   -- the columns are over the schema
-  over_schema : K.signature ≡ signature_of schema
-  over_schema = same_signature K.signature (signature_of schema) (parts.counted ∙ parts.objects) parts.arrow_ends parts.attribute_ends parts.equations
+  over_schema : columns.signature ≡ signature_of schema
+  over_schema = same_signature columns.signature (signature_of schema) (parts.counted ∙ parts.names.count) parts.arrow_ends parts.attribute_ends parts.equations
 
   -- they are filled from the lists
-  filled_from : AreFilledFrom K.signature rows K
-  filled_from = subst (λ (C : Signature). AreFilledFrom C rows K) (sym over_schema) (record {
+  filled_from : AreFilledFrom columns.signature rows columns
+  filled_from = subst (λ (C : Signature). AreFilledFrom C rows columns) (sym over_schema) (record {
     category = parts.category;
     no_fault = parts.no_fault;
-    objects = parts.objects;
-    arrow_count = parts.arrows ∙ sym (length-map schema.arrows ends_of_arrow);
-    attribute_count = parts.attributes ∙ sym (length-map schema.attributes ends_of_attribute);
-    each_names = parts.each_names;
-    each_arrow = parts.each_arrow;
-    each_attribute = parts.each_attribute;
+    names = parts.names;
+    arrows = subst (λ (n : ℕ). AreAll no_column (IsArrowColumn (signature_of schema) rows) n columns.arrows) (sym (length-map schema.arrows ends_of_arrow)) parts.arrows;
+    cells = subst (λ (n : ℕ). AreAll [] (AreCellsOf (signature_of schema) rows) n columns.cells) (sym (length-map schema.attributes ends_of_attribute)) parts.cells;
   })
 
   -- so they are columns
-  pub columns_from : AreColumns K
-  columns_from = columns_are K rows filled_from
+  pub columns_from : AreColumns columns
+  columns_from = columns_are columns rows filled_from
 
   -- that keep the lists
-  pub kept_from : Keeps (signature_of schema) rows K
-  kept_from = subst (λ (C : Signature). Keeps C rows K) over_schema (kept K rows filled_from)
+  pub kept_from : Keeps (signature_of schema) rows columns
+  kept_from = subst (λ (C : Signature). Keeps C rows columns) over_schema (kept columns rows filled_from)

@@ -4,4 +4,5 @@ pub mod Filled
 pub mod FromRows
 pub mod Kept
 pub mod Lists
+pub mod ListsRead
 pub mod Same

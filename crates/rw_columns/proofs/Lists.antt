@@ -1,5 +1,5 @@
 -- What lists without a fault give to columns.
-use Rattle.std.proofs.Common.{◌≡◌, ◌∙◌, ℕ, ◌<◌, true, ◌&&◌, nat_lt, All, List, Option, Some, None, length, get_or, map, option_map, slice_get, slice_index, sym, ap, subst}
+use Rattle.std.proofs.Common.{◌≡◌, ◌∙◌, ℕ, ◌<◌, true, nat_lt, All, List, Some, None, get_or, option_map, slice_get, slice_index, ap}
 use Rattle.std.specs.List.{list_all, Contains}
 use Rattle.std.proofs.lemmas.Bool.{and_parts, ltb-true}
 use Rattle.std.proofs.lemmas.List.Elements.{Contains-get_or}

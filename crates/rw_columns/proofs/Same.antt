@@ -1,5 +1,5 @@
 -- What is the same as an instance is one.
-use Rattle.std.proofs.Common.{◌≡◌, ◌∙◌, ℕ, List, [], ◌∷◌, Some, slice_get, refl, sym, ap, subst}
+use Rattle.std.proofs.Common.{◌≡◌, ◌∙◌, ℕ, List, [], ◌∷◌, refl, sym, ap, subst}
 use Rattle.rw_schema.specs.declared.ids.ArrowId.{ArrowId}
 use Rattle.rw_schema.specs.Signature.{Signature, IsPath, IsCategory}
 use Rattle.rw_spec.specs.Instance.{Instance, Has, IsInstance, follow}

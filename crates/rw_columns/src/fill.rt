@@ -4,7 +4,7 @@ ghost use Rattle.std.specs.Prelude.{[], ◌≡◌, ◌<◌, All, IfOk, None, Opt
 ghost use Rattle.rw_schema.specs.Presentation.{signature_of};
 ghost use Rattle.rw_table.specs.TableFaults.{are_names, table_fault};
 ghost use Rattle.rw_columns.specs.Columned.{no_column};
-ghost use Rattle.rw_columns.specs.inner.Filled.{IsFilledColumn, IsNamesColumn, IsArrowColumn, AreFilledCells, AreCellsOf, AreEach};
+ghost use Rattle.rw_columns.specs.inner.Filled.{IsFilledColumn, IsNamesColumn, IsArrowColumn, AreFilledCells, AreCellsOf, AreAll};
 
 use rw_column::Column;
 use rw_schema::{ArrowId, Atom, AttrId, ObjectId, OutOfMemory, Rows, Schema};
@@ -17,8 +17,7 @@ pub fn names_columns(
     rows: &Rows,
 ) -> Result<Vec<Column>, OutOfMemory>
     requires { table_fault (signature_of schema.now) rows.now ≡ None }
-    ensures count { IfOk result (λ columns. length columns.items ≡ length schema.now.objects) }
-    ensures each { IfOk result (λ columns. AreEach no_column (IsNamesColumn rows.now) columns.items) }
+    ensures { IfOk result (λ columns. AreAll no_column (IsNamesColumn rows.now) (length schema.now.objects) columns.items) }
 {
     let mut columns = Vec::new(alloc);
     for place in 0..schema.objects() {
@@ -48,8 +47,7 @@ pub fn arrow_columns(
     rows: &Rows,
 ) -> Result<Vec<Column>, OutOfMemory>
     requires { table_fault (signature_of schema.now) rows.now ≡ None }
-    ensures count { IfOk result (λ columns. length columns.items ≡ length schema.now.arrows) }
-    ensures each { IfOk result (λ columns. AreEach no_column (IsArrowColumn (signature_of schema.now) rows.now) columns.items) }
+    ensures { IfOk result (λ columns. AreAll no_column (IsArrowColumn (signature_of schema.now) rows.now) (length schema.now.arrows) columns.items) }
 {
     let mut columns = Vec::new(alloc);
     for place in 0..schema.arrows() {
@@ -72,7 +70,13 @@ fn arrow_column(
     let ends = schema.arrow(arrow);
     let sources = rows.next(ends.source);
     let targets = rows.next(ends.target);
-    column_of_images(alloc, sources, targets, rows.names(ends.source), rows.row(arrow))
+    column_of_images(
+        alloc,
+        sources,
+        targets,
+        rows.names(ends.source),
+        rows.row(arrow),
+    )
 }
 
 /// The cells of each attribute.
@@ -82,8 +86,7 @@ pub fn cell_lists(
     rows: &Rows,
 ) -> Result<Vec<Vec<Option<Atom>>>, OutOfMemory>
     requires { table_fault (signature_of schema.now) rows.now ≡ None }
-    ensures count { IfOk result (λ lists. length lists.items ≡ length schema.now.attributes) }
-    ensures each { IfOk result (λ lists. AreEach [] (AreCellsOf (signature_of schema.now) rows.now) (map (λ list. list.items) lists.items)) }
+    ensures { IfOk result (λ lists. AreAll [] (AreCellsOf (signature_of schema.now) rows.now) (length schema.now.attributes) (map (λ list. list.items) lists.items)) }
 {
     let mut lists = Vec::new(alloc);
     for place in 0..schema.attributes() {
@@ -104,7 +107,12 @@ fn cells_of(
     ensures { IfOk result (λ list. AreCellsOf (signature_of schema.now) rows.now attribute.0 list.items) }
 {
     let object = schema.attr(attribute).object;
-    cells_by_name(alloc, rows.next(object), rows.names(object), rows.cells(attribute))
+    cells_by_name(
+        alloc,
+        rows.next(object),
+        rows.names(object),
+        rows.cells(attribute),
+    )
 }
 
 /// The column that has 0 at each name.
@@ -173,7 +181,7 @@ fn put_cell(
 }
 
 /// A copy of the cell.
-fn copy_cell(alloc: Global, cell: &Option<Atom>) -> Result<Option<Atom>, OutOfMemory>
+pub fn copy_cell(alloc: Global, cell: &Option<Atom>) -> Result<Option<Atom>, OutOfMemory>
     ensures { IfOk result (λ copy. copy ≡ cell.now) }
 {
     match cell {

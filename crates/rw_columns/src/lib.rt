@@ -3,6 +3,7 @@
 
 mod columns;
 mod fill;
+mod read;
 #[cfg(test)]
 mod tests;
 mod walks;

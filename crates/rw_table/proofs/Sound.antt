@@ -22,7 +22,7 @@ use Rattle.rw_table.proofs.Checked.{shape_known, row_whole, cells_whole, names_a
 use Rattle.rw_table.proofs.Listed.{listed, listed_unfaulted}
 
 -- a list that has at each place what a map with places gives there is that map
-mapped_in : {X A : Type 0} (f : ℕ → X → A) (i : ℕ) (xs : List X) (ys : List A) (d : A) → length ys ≡ length xs
+pub mapped_in : {X A : Type 0} (f : ℕ → X → A) (i : ℕ) (xs : List X) (ys : List A) (d : A) → length ys ≡ length xs
     → ((k : ℕ) (x : X) → slice_get xs k ≡ Some x → get_or ys k d ≡ f (i + k) x) → ys ≡ map_in f i xs
 mapped_in f i [] [] d long each = refl
 mapped_in f i [] (y ∷ ys) d long each = absurd (omega arith)

@@ -48,17 +48,15 @@ abbrev pub AreCellsOf : Signature → RowLists → ℕ → List (Option Atom) �
 AreCellsOf C rows attribute list =
     AreFilledCells (slice_index rows.next (holder_of C attribute)) (list_at rows.names (holder_of C attribute)) (list_at rows.cells attribute) list
 
--- what each item has to be at its place
-abbrev pub AreEach : {A : Type 0} → A → (ℕ → A → Type 0) → List A → Type 0
-AreEach none Is items = (place : ℕ) → place < length items → Is place (slice_index_or items place none)
+-- so many items, each of them what it has to be at its place
+pub record AreAll {A : Type 0} (none : A) (Is : ℕ → A → Type 0) (many : ℕ) (items : List A) : Type 0 where
+  pub count : length items ≡ many
+  pub each : (place : ℕ) → place < many → Is place (slice_index_or items place none)
 
 -- columns that are filled from lists without a fault
 pub record AreFilledFrom (C : Signature) (rows : RowLists) (columns : Columned) : Type 0 where
   pub category : IsCategory C
   pub no_fault : table_fault C rows ≡ None
-  pub objects : length columns.names ≡ C.objects
-  pub arrow_count : length columns.arrows ≡ length C.arrows
-  pub attribute_count : length columns.cells ≡ length C.attributes
-  pub each_names : AreEach no_column (IsNamesColumn rows) columns.names
-  pub each_arrow : AreEach no_column (IsArrowColumn C rows) columns.arrows
-  pub each_attribute : AreEach [] (AreCellsOf C rows) columns.cells
+  pub names : AreAll no_column (IsNamesColumn rows) C.objects columns.names
+  pub arrows : AreAll no_column (IsArrowColumn C rows) (length C.arrows) columns.arrows
+  pub cells : AreAll [] (AreCellsOf C rows) (length C.attributes) columns.cells

@@ -1,5 +1,5 @@
 -- The cell beside the next name is put at it.
-use Rattle.std.proofs.Common.{◌∙◌, ◌<◌, None, length, arith}
+use Rattle.std.proofs.Common.{◌∙◌, ◌<◌, None, length}
 use Rattle.std.proofs.lemmas.List.{get_or_default}
 use Rattle.rw_columns.proofs.Filled.{cells_put}
 use Rattle.rw_columns.proofs.fill.cells_by_name.Goals as goal

@@ -1,5 +1,5 @@
 -- The image beside the next name is linked to it.
-use Rattle.std.proofs.Common.{length, slice_index}
+use Rattle.std.proofs.Common.{slice_index}
 use Rattle.rw_column.specs.Threads.{nothing}
 use Rattle.rw_columns.proofs.Filled.{next_free, column_linked}
 use Rattle.rw_columns.proofs.fill.column_of_images.Goals as goal

@@ -3,3 +3,6 @@ use Rattle.rw_columns.proofs.tests.a_graph_is_read_from_its_columns.Given as goa
 
 abbrev pub ghosts-is_read : goal.ghosts-is_read
 ghosts-is_read g a = record { name = a.blank.name; parts = a.blank.parts }
+
+abbrev pub ghosts-are_listed : goal.ghosts-are_listed
+ghosts-are_listed g a = record { name = a.blank.name; parts = a.blank.parts }

@@ -3,3 +3,6 @@ use Rattle.rw_columns.proofs.tests.names_need_not_be_contiguous.Given as goal
 
 abbrev pub ghosts-are_read : goal.ghosts-are_read
 ghosts-are_read g a = record { name = a.blank.name; parts = a.blank.parts }
+
+abbrev pub ghosts-are_listed : goal.ghosts-are_listed
+ghosts-are_listed g a = record { name = a.blank.name; parts = a.blank.parts }

@@ -1,8 +1,5 @@
 -- The columns are put together.
-use Rattle.std.proofs.Common.{◌∙◌, List, length, map, refl, ap}
-use Rattle.std.proofs.lemmas.List.{length-map}
-use Rattle.rw_schema.specs.declared.parts.ArrowDef.{ArrowDef}
-use Rattle.rw_schema.specs.declared.parts.AttrDef.{AttrDef}
+use Rattle.std.proofs.Common.{◌∙◌, length, map, refl, ap}
 use Rattle.rw_schema.specs.Presentation.{ends_of_arrow, ends_of_attribute}
 use Rattle.rw_columns.specs.Columned.{Columned}
 use Rattle.rw_columns.proofs.FromRows.{ArePartsOf, columns_from, kept_from}
@@ -31,12 +28,9 @@ parts_of c = record {
   attribute_ends = c.in_ok-attribute_ends.ensures ∙ ap (map ends_of_attribute) c.attribute_list.ensures.value;
   equations = c.in_ok-equations.ensures ∙ c.equation_list.ensures.value;
   counted = refl;
-  objects = c.in_ok-names.ensures.count;
-  arrows = c.in_ok-arrows.ensures.count;
-  attributes = length-map c.in_ok-cells.cells.items (λ list. list.items) ∙ c.in_ok-cells.ensures.count;
-  each_names = c.in_ok-names.ensures.each;
-  each_arrow = c.in_ok-arrows.ensures.each;
-  each_attribute = c.in_ok-cells.ensures.each;
+  names = c.in_ok-names.ensures;
+  arrows = c.in_ok-arrows.ensures;
+  cells = c.in_ok-cells.ensures;
 }
 
 pub invariant_of-result : goal.invariant_of-result
