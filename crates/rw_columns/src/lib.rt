@@ -3,6 +3,8 @@
 
 mod columns;
 mod fill;
+#[cfg(test)]
+mod tests;
 mod walks;
 
 pub use columns::Columns;
