@@ -60,7 +60,7 @@ pub(crate) fn read_watch_head(
     if !has_name_length(form.name.as_str()) {
         return Err(piece.refused(4));
     }
-    if taken.has(form.name.as_str()) && !form.monic.is_empty() {
+    if taken.has(form.name.as_str()) {
         return Err(piece.refused(5));
     }
     let monic = read_monic(alloc, schema, piece, form.monic.as_slice())?;

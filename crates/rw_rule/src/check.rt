@@ -1,9 +1,9 @@
 //! Whether parts are a rule.
 
-ghost use Rattle.std.specs.Prelude.{◌≡◌, ◌<◌, ◌≤◌, ◌^◌, ◌&&◌, IfOk, length};
+ghost use Rattle.std.specs.Prelude.{◌≡◌, ◌<◌, ◌≤◌, ◌^◌, IfOk, length};
 ghost use Rattle.rw_schema.specs.First.{or_else};
 ghost use Rattle.rw_schema.specs.Presentation.{signature_of};
-ghost use Rattle.rw_rule.specs.RuleFaults.{AreOver, HasFault, is_apart as is_apart_rule, is_sqpo, rule_fault};
+ghost use Rattle.rw_rule.specs.RuleFaults.{AreOver, HasFault, is_apart as is_apart_rule, rule_fault};
 ghost use Rattle.rw_rule.specs.RuleParts.{rule_of_parts};
 ghost use Rattle.rw_rule.specs.Sets.{bad_set, set_again, unbound_set, value_missing};
 
@@ -12,7 +12,7 @@ use crate::given::first_value_missing;
 use crate::images::is_one_to_one;
 use crate::maps::are_maps;
 use crate::sets::{first_bad_set, first_set_again, first_unbound_set};
-use crate::{RuleFault, RuleKind, RuleParts};
+use crate::{RuleFault, RuleParts};
 use rw_schema::{OutOfMemory, Schema};
 use std::alloc::Global;
 
@@ -43,7 +43,7 @@ fn fault_of(schema: &Schema, parts: &RuleParts, ops: usize, cyclic: bool) -> Opt
     if !is_apart(parts) {
         return Some(RuleFault::NotInjective);
     }
-    if is_cyclic_sqpo(parts.kind, cyclic) {
+    if parts.kind.is_sqpo() && cyclic {
         return Some(RuleFault::CyclicSqpo);
     }
     first_set_fault(schema, parts, ops)
@@ -55,13 +55,6 @@ fn is_apart(parts: &RuleParts) -> bool
     ensures { result ≡ is_apart_rule (rule_of_parts parts.now) }
 {
     parts.kind.is_sqpo() || is_one_to_one(&parts.keep, &parts.l)
-}
-
-/// Whether the rule is a sesqui-pushout, and arrows of the schema lead round a cycle.
-pub fn is_cyclic_sqpo(kind: RuleKind, cyclic: bool) -> bool
-    ensures { result ≡ (is_sqpo kind && cyclic) }
-{
-    kind.is_sqpo() && cyclic
 }
 
 /// The first condition on the sets that fails.

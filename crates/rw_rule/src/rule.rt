@@ -6,8 +6,8 @@ ghost use Rattle.rw_rule.specs.RuleFaults.{AreOver, BuildsRule, BuildsUnlessCycl
 ghost use Rattle.rw_rule.specs.RuleParts.{goal_of_parts, rule_of_parts};
 ghost use Rattle.rw_terms.specs.OpEntries.{entries};
 
-use crate::check::{first_fault, is_cyclic_sqpo};
-use crate::cycle::has_cycle;
+use crate::check::first_fault;
+use crate::cycle::is_cyclic_sqpo;
 use crate::{Goal, RuleFault, RuleKind, RuleParts, SetCell};
 use rw_pattern::Pattern;
 use rw_schema::{OutOfMemory, PartMap, Schema, Text};
@@ -91,8 +91,7 @@ impl Rule {
         ensures builds { IfOk result (BuildsUnlessCyclic (signature_of schema.now) (length (entries _ops.now)) (rule_of_parts parts)) }
         ensures over { IfOk result (λ found. IfSome found (IsRuleOver (signature_of schema.now) (length (entries _ops.now)))) }
     {
-        let cyclic = has_cycle(alloc, schema)?;
-        if is_cyclic_sqpo(parts.kind, cyclic) {
+        if is_cyclic_sqpo(alloc, schema, parts.kind)? {
             return Ok(None);
         }
         Ok(Some(Rule::of_parts(parts)))
