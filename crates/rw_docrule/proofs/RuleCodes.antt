@@ -1,17 +1,15 @@
 -- A reading of a rule tells its first fault.
-use Rattle.std.proofs.Common.{◌≡◌, ◌∙◌, ◌⊎◌, ◌&&◌, ◌||◌, inl, inr, ◌<◌, ◌≤◌, ℕ, suc, Bool, true, false, not, nat_le, is_none, is_some, IsSomeAnd, IsOkAnd, Option, Some, None, Result, Ok, Err, List, slice_get, refl, sym, subst, arith, zero-add}
+use Rattle.std.proofs.Common.{◌≡◌, ◌∙◌, ◌⊎◌, ◌&&◌, ◌||◌, inl, inr, ◌<◌, ◌≤◌, ℕ, Bool, true, false, not, nat_le, is_none, IsSomeAnd, IsOkAnd, Option, Some, None, Result, Ok, Err, List, refl, sym, subst, arith, zero-add}
 use Rattle.std.specs.List.{list_any}
 use Rattle.std.specs.Str.{bytes_eq}
 use Rattle.std.proofs.lemmas.Bool.{leb-false, leb-true}
 use Rattle.serde_json.specs.Data.{Data}
-use Rattle.rw_schema.specs.declared.section.Section.{Section}
 use Rattle.rw_schema.specs.declared.section.Section.TheVariants as sections
 use Rattle.rw_schema.specs.Presentation.{Presentation, signature_of}
 use Rattle.rw_schema.specs.SchemaFaults.{is_name}
 use Rattle.rw_schema.specs.Signature.{Signature}
 use Rattle.rw_schema.specs.First.{fault_unless, first_in}
 use Rattle.rw_schema.proofs.Firsts.{none_at, passed_unless}
-use Rattle.rw_pattern.specs.PatternLists.{PatternLists}
 use Rattle.rw_terms.specs.OpTables.{OpEntry}
 use Rattle.rw_rule.specs.declared.fault.RuleFault.{RuleFault}
 use Rattle.rw_rule.specs.declared.fault.RuleFault.TheVariants.{NoValueGiven}
@@ -28,21 +26,20 @@ use Rattle.rw_doc.specs.Numbers.{as_number_lists}
 use Rattle.rw_doc.specs.Pieces.{fault_in}
 use Rattle.rw_doc.proofs.Chains.{chain, checked_then, there}
 use Rattle.rw_docpattern.specs.Codes.{TellsLeast, row}
-use Rattle.rw_docpattern.specs.MapCodes.{ImagesHave, MonicHas}
-use Rattle.rw_docpattern.specs.Maps.{read_map}
+use Rattle.rw_docpattern.specs.MapCodes.{MonicHas}
 use Rattle.rw_docpattern.specs.Objects.{read_monic}
 use Rattle.rw_docpattern.specs.PatternCodes.{BareHas, PatternHas, RightHas}
-use Rattle.rw_docpattern.specs.Patterns.{PatternRead, read_bare_pattern, read_pattern}
+use Rattle.rw_docpattern.specs.Patterns.{read_bare_pattern, read_pattern}
 use Rattle.rw_docpattern.specs.PieceCodes.{TellsFirstPiece, no_piece, piece_row}
 use Rattle.rw_docpattern.specs.Sets.{RightRead, read_right}
-use Rattle.rw_docpattern.proofs.Codes.{IsFrom, from_none, from_row, here, past, tells_checked, tells_none, tells_some}
+use Rattle.rw_docpattern.proofs.Codes.{IsFrom, from_none, from_row, here, past, tells_checked, tells_none}
 use Rattle.rw_docpattern.proofs.MapCodes.{found_at, failed_unless, map_then}
 use Rattle.rw_docpattern.proofs.NamedCodes.{named_tells}
 use Rattle.rw_docpattern.proofs.PatternCodes.{bare_tells, pattern_tells, right_tells}
 use Rattle.rw_docpattern.proofs.PieceCodes.{IsFromPiece, from_no_piece, from_piece, in_turn, piece_last, piece_then}
 use Rattle.rw_docrule.specs.Heads.{HeadForm, RuleHead, RuleMembers, head_form, read_rule_head, rule_members}
 use Rattle.rw_docrule.specs.RuleCodes.{FirstRuleFault, HeadFormHas, HeadHas, IsNotApart, LacksValue, LeftMapHas, PiecesHave, RightMapHas, RuleHas}
-use Rattle.rw_docrule.specs.Rules.{Body, Maps, RuleRead, Sides, read_body, read_l, read_maps, read_pieces, read_r, read_rule_where, read_sides, rule_piece, rule_with, with_values}
+use Rattle.rw_docrule.specs.Rules.{Body, RuleRead, Sides, read_body, read_l, read_maps, read_pieces, read_r, read_rule_where, read_sides, rule_piece, rule_with, with_values}
 
 -- ---- what is told of what comes after, or of what is known
 

@@ -1,7 +1,5 @@
 -- A reading of the list of rules tells the first fault.
-use Rattle.std.proofs.Common.{◌≡◌, ◌∙◌, Bool, true, false, nat_le, is_none, ◌&&◌, ℕ, Option, Some, None, option_and_then, option_map, codes, Result, Ok, List, [], length, map, if◌then◌else◌, refl, sym, ap, subst, zero-add}
-use Rattle.std.specs.List.{list_any}
-use Rattle.std.specs.Str.{bytes_eq}
+use Rattle.std.proofs.Common.{◌≡◌, ◌∙◌, Bool, true, false, is_none, ℕ, Option, Some, None, option_and_then, option_map, codes, Ok, List, [], length, map, if◌then◌else◌, sym, ap, subst, zero-add}
 use Rattle.serde_json.specs.Data.{Data}
 use Rattle.serde_json.specs.Find.{as_str, get}
 use Rattle.rw_schema.specs.declared.section.Section.TheVariants as sections
@@ -17,7 +15,7 @@ use Rattle.rw_docpattern.specs.Objects.{texts_or_none}
 use Rattle.rw_docpattern.specs.PieceCodes.{IsNameOf, TellsFirstPiece, name_written}
 use Rattle.rw_docpattern.proofs.NamedCodes.{is_read, there_parts, was_written}
 use Rattle.rw_docpattern.proofs.PieceCodes.{any_list_tells, items_tell}
-use Rattle.rw_docrule.specs.Heads.{HeadForm, RuleHead, RuleMembers, conditions_or_none, head_form, read_rule_head, rule_keys, rule_members, rule_members_in}
+use Rattle.rw_docrule.specs.Heads.{HeadForm, RuleMembers, conditions_or_none, head_form, read_rule_head, rule_keys, rule_members, rule_members_in}
 use Rattle.rw_docrule.specs.RuleCodes.{FirstRulesFault, RuleBehindHas, RuleHas}
 use Rattle.rw_docrule.specs.Rules.{RuleRead, read_body, read_rule, read_rule_where, rule_piece, rule_with}
 use Rattle.rw_docrule.proofs.RuleCodes.{head_is, taken_tells}

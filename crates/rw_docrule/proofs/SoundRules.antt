@@ -1,6 +1,6 @@
 -- The lists of a rule that is read have no fault but that arrows may lead round a cycle.
 use Rattle.std.proofs.lemmas.List.Elements.{All-nil}
-use Rattle.std.proofs.Common.{◌≡◌, ℕ, Bool, true, false, not, ◌&&◌, ◌||◌, is_none, None, Ok, List, length, refl, subst}
+use Rattle.std.proofs.Common.{◌≡◌, ℕ, Bool, true, false, not, ◌&&◌, ◌||◌, None, Ok, List, length, refl, subst}
 use Rattle.rw_schema.specs.Presentation.{Presentation, signature_of}
 use Rattle.rw_schema.specs.Signature.{Signature}
 use Rattle.rw_terms.specs.OpTables.{OpEntry}
@@ -20,7 +20,7 @@ use Rattle.rw_docpattern.specs.Sets.{read_right}
 use Rattle.rw_docrule.specs.Heads.{RuleHead, RuleMembers}
 use Rattle.rw_docrule.specs.Known.{AreSidesOver}
 use Rattle.rw_docrule.specs.Rules.{Body, Maps, Sides, read_body, read_l, read_maps, read_r, read_sides, rule_piece, rule_with}
-use Rattle.rw_doc.proofs.Checked.{none_is, passed}
+use Rattle.rw_doc.proofs.Checked.{passed}
 use Rattle.rw_docrule.proofs.ReadMaps.{map_read}
 use Rattle.rw_docrule.proofs.RightSets.{AreSets, sets_read}
 

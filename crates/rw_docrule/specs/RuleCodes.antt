@@ -12,7 +12,6 @@ use Rattle.rw_schema.specs.Signature.{Signature}
 use Rattle.rw_pattern.specs.PatternLists.{PatternLists}
 use Rattle.rw_terms.specs.OpTables.{OpEntry}
 use Rattle.rw_rule.specs.declared.kind.RuleKind.{RuleKind}
-use Rattle.rw_rule.specs.declared.set.SetCell.{SetCell}
 use Rattle.rw_rule.specs.Images.{is_image, is_injective, parts_of}
 use Rattle.rw_rule.specs.RuleFaults.{is_sqpo}
 use Rattle.rw_rule.specs.Sets.{is_set}

@@ -15,7 +15,7 @@ ghost use Rattle.rw_docrule.specs.Reads.{rule_read};
 
 use crate::RuleRead;
 use rw_doc::{ReadDocEnd, refused_of};
-use rw_rule::{Rule, RuleFault, is_plain};
+use rw_rule::{Rule, is_plain};
 use rw_schema::{Schema, Section};
 use rw_terms::OpTable;
 use std::alloc::Global;
@@ -60,11 +60,9 @@ fn build_rule(
     if read.has_conditions {
         return Err(not_built());
     }
-    match Rule::build(alloc, schema, read.parts, ops) {
-        Ok(rule) => plain_rule(rule),
-        Err(RuleFault::CyclicSqpo) => Err(not_built()),
-        Err(RuleFault::OutOfMemory) => Err(ReadDocEnd::OutOfMemory),
-        Err(_) => unreachable!(),
+    match Rule::of_checked(alloc, schema, read.parts, ops)? {
+        Some(rule) => plain_rule(rule),
+        None => Err(not_built()),
     }
 }
 

@@ -121,3 +121,9 @@ BuildsRule C ops lists (Err (BadTerm set)) = HasFault C ops lists (Some (BadTerm
 BuildsRule C ops lists (Err (SetTwice set)) = HasFault C ops lists (Some (SetTwice set))
 BuildsRule C ops lists (Err (NoValueGiven attr part)) = HasFault C ops lists (Some (NoValueGiven attr part))
 BuildsRule C ops lists (Err OutOfMemory) = Unit {0}
+
+-- what is built of lists without another fault than a cycle: nothing exactly where they are a sesqui-pushout rule and arrows
+-- lead round a cycle
+abbrev pub BuildsUnlessCyclic : Signature → ℕ → RuleLists → Option RuleLists → Type 0
+BuildsUnlessCyclic C ops lists (Some rule) = (rule ≡ built lists) × HasFault C ops lists None
+BuildsUnlessCyclic C ops lists None = HasFault C ops lists (Some CyclicSqpo)

@@ -16,6 +16,8 @@ mod refusal;
 mod rule;
 mod set;
 mod sets;
+#[cfg(test)]
+mod tests;
 mod watch;
 
 pub use condition::Condition;

@@ -1,15 +1,16 @@
 //! Rewriting rules.
 
-ghost use Rattle.std.specs.Prelude.{◌≡◌, ◌<◌, ◌^◌, IfOk, length};
+ghost use Rattle.std.specs.Prelude.{◌≡◌, ◌<◌, ◌^◌, IfOk, IfSome, None, false, length};
 ghost use Rattle.rw_schema.specs.Presentation.{signature_of};
-ghost use Rattle.rw_rule.specs.RuleFaults.{AreOver, BuildsRule, IsRuleOver, built, monic_of};
+ghost use Rattle.rw_rule.specs.RuleFaults.{AreOver, BuildsRule, BuildsUnlessCyclic, IsRuleOver, built, monic_of, rule_fault};
 ghost use Rattle.rw_rule.specs.RuleParts.{goal_of_parts, rule_of_parts};
 ghost use Rattle.rw_terms.specs.OpEntries.{entries};
 
 use crate::check::first_fault;
+use crate::cycle::is_cyclic_sqpo;
 use crate::{Goal, RuleFault, RuleKind, RuleParts, SetCell};
 use rw_pattern::Pattern;
-use rw_schema::{PartMap, Schema, Text};
+use rw_schema::{OutOfMemory, PartMap, Schema, Text};
 use rw_terms::OpTable;
 use std::alloc::Global;
 use std::marker::Model;
@@ -73,6 +74,27 @@ impl Rule {
             Some(fault) => Err(fault),
             None => Ok(Rule::of_parts(parts)),
         }
+    }
+
+    /// The rule of parts whose conditions are known to hold, but for one that is looked at here: none exactly where they
+    /// are a sesqui-pushout rule and arrows of the schema lead round a cycle. So a caller that checks conditions one by
+    /// one, as a reading does, has them checked once. The conditions were checked with this table of operations; nothing
+    /// is looked up in it. Memory is taken to look for a cycle alone.
+    pub fn of_checked(
+        alloc: Global,
+        schema: &Schema,
+        parts: RuleParts,
+        _ops: &OpTable,
+    ) -> Result<Option<Rule>, OutOfMemory>
+        requires over { AreOver (signature_of schema.now) (rule_of_parts parts) }
+        requires sound { rule_fault (signature_of schema.now) (length (entries _ops.now)) false (rule_of_parts parts) ≡ None }
+        ensures builds { IfOk result (BuildsUnlessCyclic (signature_of schema.now) (length (entries _ops.now)) (rule_of_parts parts)) }
+        ensures over { IfOk result (λ found. IfSome found (IsRuleOver (signature_of schema.now) (length (entries _ops.now)))) }
+    {
+        if is_cyclic_sqpo(alloc, schema, parts.kind)? {
+            return Ok(None);
+        }
+        Ok(Some(Rule::of_parts(parts)))
     }
 
     /// The rule of the parts. Whether they are a rule is not looked at here.

@@ -1,9 +1,8 @@
 -- What the pieces make is a rule unless arrows lead round a cycle.
-use Rattle.std.proofs.Common.{◌≡◌, ◌∙◌, true, is_none, None, sym}
+use Rattle.std.proofs.Common.{◌∙◌, sym}
 use Rattle.rw_schema.specs.Presentation.{signature_of}
 use Rattle.rw_schema.specs.Signature.{Signature}
 use Rattle.rw_terms.specs.OpEntries.{entries}
-use Rattle.rw_rule.specs.RuleFaults.{AreOver}
 use Rattle.rw_rule.specs.Sets.{value_missing}
 use Rattle.rw_doc.proofs.Checked.{none_is}
 use Rattle.rw_docrule.specs.Members.{members_of_rule}
