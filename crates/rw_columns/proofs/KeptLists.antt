@@ -1,15 +1,14 @@
 -- What follows where columns keep lists.
-use Rattle.std.proofs.Common.{◌≡◌, ◌∙◌, ℕ, ◌<◌, List, [], Option, None, Some, Contains, length, get_or, slice_get, slice_index, map, sym, ap, subst, zero-add, arith}
+use Rattle.std.proofs.Common.{◌≡◌, ◌∙◌, ℕ, ◌<◌, List, [], None, Contains, length, get_or, map, sym, ap, subst, zero-add}
 use Rattle.std.proofs.lemmas.List.{ext_get_or, length-map, get_or-map}
 use Rattle.std.proofs.lemmas.List.Elements.{Contains-get_or}
 use Rattle.std.proofs.lemmas.List.FromFn.{fill_by_all}
 use Rattle.rw_schema.specs.declared.signature.ArrowEnds.{ArrowEnds}
 use Rattle.rw_schema.specs.declared.signature.AttrEnds.{AttrEnds}
 use Rattle.rw_schema.specs.RowLists.{RowLists, list_at}
-use Rattle.rw_schema.specs.Signature.{Signature, source_of, holder_of}
-use Rattle.rw_spec.specs.Instance.{instance_of, lists_of, look}
+use Rattle.rw_schema.specs.Signature.{Signature}
+use Rattle.rw_spec.specs.Instance.{instance_of, look}
 use Rattle.rw_spec.specs.Same.{AreSame}
-use Rattle.rw_spec.proofs.Ascending.{ascends_distinct}
 use Rattle.rw_spec.proofs.Look.{look_at}
 use Rattle.rw_spec.proofs.Signatures.{source_is, holder_is}
 use Rattle.rw_table.specs.TableFaults.{table_fault}
@@ -34,8 +33,8 @@ entries_given : {A : Type 0} (none : A) (f : ℕ → A) (names : List ℕ) (entr
 entries_given none f names entries beside each =
     ext_get_or none entries (map f names) (beside ∙ sym (length-map names f))
     (λ k within.
-      let among : k < length names = rw (← beside) within in
-      sym (get_or-map f names k 0 none among ∙ each k among))
+    let among : k < length names = rw (← beside) within in
+    sym (get_or-map f names k 0 none among ∙ each k among))
 
 -- columns that keep lists without a fault give these back
 pub kept_lists : (rows : RowLists) (columns : Columned) → Keeps columns.signature rows columns → table_fault columns.signature rows ≡ None → rows ≡ lists_of_columns columns
@@ -48,24 +47,24 @@ kept_lists rows columns keeps none =
     let next = fill_by_all (next_of columns) rows.next C.objects 0 shape.next (λ object known. sym (keeps.next object)) in
     let arrows = mapped_in (λ a (ends : ArrowEnds). map (Y.value a) (Y.names ends.source.0)) 0 C.arrows rows.arrows [] shape.arrows
     (λ a ends there.
-      let sources = list_at rows.names ends.source.0 in
-      let row = list_at rows.arrows a in
-      let distinct = names_apart C rows ends.source.0 none in
-      rw (zero-add, keeps.names ends.source.0)
-      (entries_given 0 (Y.value a) sources row (row_whole C rows a ends checked.shape there)
-      (λ k among.
-        keeps.values a ends (get_or sources k 0) there (Contains-get_or sources k 0 among)
-        ∙ ap (λ (source : ℕ). look 0 (list_at rows.names source) row (get_or sources k 0)) (source_is C a ends there)
-        ∙ look_at 0 sources row k distinct among))) in
+    let sources = list_at rows.names ends.source.0 in
+    let row = list_at rows.arrows a in
+    let distinct = names_apart C rows ends.source.0 none in
+    rw (zero-add, keeps.names ends.source.0)
+    (entries_given 0 (Y.value a) sources row (row_whole C rows a ends checked.shape there)
+    (λ k among.
+    keeps.values a ends (get_or sources k 0) there (Contains-get_or sources k 0 among)
+    ∙ ap (λ (source : ℕ). look 0 (list_at rows.names source) row (get_or sources k 0)) (source_is C a ends there)
+    ∙ look_at 0 sources row k distinct among))) in
     let cells = mapped_in (λ c (ends : AttrEnds). map (Y.cell c) (Y.names ends.object.0)) 0 C.attributes rows.cells [] shape.cells
     (λ c ends there.
-      let holders = list_at rows.names ends.object.0 in
-      let list = list_at rows.cells c in
-      let distinct = names_apart C rows ends.object.0 none in
-      rw (zero-add, keeps.names ends.object.0)
-      (entries_given None (Y.cell c) holders list (cells_whole C rows c ends checked.shape there)
-      (λ k among.
-        keeps.cells c (get_or holders k 0)
-        ∙ ap (λ (holder : ℕ). look None (list_at rows.names holder) list (get_or holders k 0)) (holder_is C c ends there)
-        ∙ look_at None holders list k distinct among))) in
+    let holders = list_at rows.names ends.object.0 in
+    let list = list_at rows.cells c in
+    let distinct = names_apart C rows ends.object.0 none in
+    rw (zero-add, keeps.names ends.object.0)
+    (entries_given None (Y.cell c) holders list (cells_whole C rows c ends checked.shape there)
+    (λ k among.
+    keeps.cells c (get_or holders k 0)
+    ∙ ap (λ (holder : ℕ). look None (list_at rows.names holder) list (get_or holders k 0)) (holder_is C c ends there)
+    ∙ look_at None holders list k distinct among))) in
     same_rows rows (lists_of_columns columns) names arrows cells next
