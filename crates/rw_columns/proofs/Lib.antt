@@ -3,6 +3,7 @@ pub mod Columned
 pub mod Filled
 pub mod FromRows
 pub mod Kept
+pub mod KeptLists
 pub mod Lists
 pub mod ListsRead
 pub mod Same
