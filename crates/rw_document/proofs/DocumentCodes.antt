@@ -1,5 +1,5 @@
 -- A reading of a document tells the first section with a fault.
-use Rattle.std.proofs.Common.{◌≡◌, ◌∙◌, ◌⊎◌, inl, inr, ◌<◌, ◌≤◌, ℕ, suc, Bool, true, false, not, codes, Option, Some, None, IsSomeAnd, IsOkAnd, Result, Ok, Err, List, map, refl, sym, subst, arith}
+use Rattle.std.proofs.Common.{◌≡◌, ◌⊎◌, inl, inr, ◌<◌, ℕ, suc, Bool, true, false, not, codes, Option, Some, None, IsSomeAnd, IsOkAnd, Result, Ok, Err, List, map, refl, sym, subst, arith}
 use Rattle.std.specs.List.{Any, list_all}
 use Rattle.serde_json.specs.Data.{Data}
 use Rattle.serde_json.specs.Find.{get}
@@ -12,12 +12,12 @@ use Rattle.rw_doc.specs.Chain.{and_then, checked}
 use Rattle.rw_doc.specs.Instances.{read_instance}
 use Rattle.rw_doc.specs.Schemas.{read_schema}
 use Rattle.rw_docpattern.proofs.Somewhere.{any_fails, none_fails}
-use Rattle.rw_docspan.specs.Spans.{CospanLists, SpanLists, read_cospan, read_span}
+use Rattle.rw_docspan.specs.Spans.{read_cospan, read_span}
 use Rattle.rw_docrule.specs.Built.{is_built, not_built}
 use Rattle.rw_docrule.specs.Rules.{RuleRead, names_of_rules, read_rules}
 use Rattle.rw_docwatch.specs.Watches.{read_watches}
-use Rattle.rw_document.specs.DocumentCodes.{DocumentHas, FirstDocumentFault, IsFirstSection, IsNotBuilt, OfSchema, OfValue, no_section, section_row}
-use Rattle.rw_document.specs.Documents.{Ends, Goals, build_all, cospan_or_none, document_with, has_more, instance_or_none, read_ends, read_goals, read_json, read_others, read_over, read_value, schema_in, span_or_none}
+use Rattle.rw_document.specs.DocumentCodes.{FirstDocumentFault, IsFirstSection, IsNotBuilt, OfSchema, OfValue, no_section, section_row}
+use Rattle.rw_document.specs.Documents.{Ends, Goals, build_all, cospan_or_none, document_with, has_more, instance_or_none, read_ends, read_goals, read_json, read_over, read_value, schema_in, span_or_none}
 use Rattle.rw_doc.specs.Entries.{Tells}
 
 -- what a reading tells of its sections

@@ -1,5 +1,5 @@
 -- What is read of a document's sections, as contracts see it.
-use Rattle.std.specs.Prelude.{◌≡◌, ◌≤◌, ℕ, true, [], length, map, option_map, IfSome}
+use Rattle.std.specs.Prelude.{◌≡◌, ◌≤◌, ℕ, true, length, map, option_map, IfSome}
 use Rattle.std.specs.List.{All}
 use Rattle.rw_schema.specs.Signature.{Signature}
 use Rattle.rw_rule.specs.PlainRules.{is_plain}

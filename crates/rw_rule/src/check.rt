@@ -32,7 +32,7 @@ pub fn first_fault(
 }
 
 /// The first condition that fails, where it is known whether arrows of the schema lead round a cycle.
-pub fn fault_of(schema: &Schema, parts: &RuleParts, ops: usize, cyclic: bool) -> Option<RuleFault>
+fn fault_of(schema: &Schema, parts: &RuleParts, ops: usize, cyclic: bool) -> Option<RuleFault>
     requires over { AreOver (signature_of schema.now) (rule_of_parts parts.now) }
     requires few { length parts.now.sets.items < 2 ^ 32 }
     ensures { result ≡ rule_fault (signature_of schema.now) ops cyclic (rule_of_parts parts.now) }

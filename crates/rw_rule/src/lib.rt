@@ -16,8 +16,6 @@ mod refusal;
 mod rule;
 mod set;
 mod sets;
-#[cfg(test)]
-mod tests;
 mod watch;
 
 pub use condition::Condition;

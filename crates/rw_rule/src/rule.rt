@@ -84,13 +84,14 @@ impl Rule {
         alloc: Global,
         schema: &Schema,
         parts: RuleParts,
-        _ops: &OpTable,
+        ops: &OpTable,
     ) -> Result<Option<Rule>, OutOfMemory>
         requires over { AreOver (signature_of schema.now) (rule_of_parts parts) }
-        requires sound { rule_fault (signature_of schema.now) (length (entries _ops.now)) false (rule_of_parts parts) ≡ None }
-        ensures builds { IfOk result (BuildsUnlessCyclic (signature_of schema.now) (length (entries _ops.now)) (rule_of_parts parts)) }
-        ensures over { IfOk result (λ found. IfSome found (IsRuleOver (signature_of schema.now) (length (entries _ops.now)))) }
+        requires sound { rule_fault (signature_of schema.now) (length (entries ops.now)) false (rule_of_parts parts) ≡ None }
+        ensures builds { IfOk result (BuildsUnlessCyclic (signature_of schema.now) (length (entries ops.now)) (rule_of_parts parts)) }
+        ensures over { IfOk result (λ found. IfSome found (IsRuleOver (signature_of schema.now) (length (entries ops.now)))) }
     {
+        let _ops = ops;
         if is_cyclic_sqpo(alloc, schema, parts.kind)? {
             return Ok(None);
         }

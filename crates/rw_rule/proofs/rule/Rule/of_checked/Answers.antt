@@ -12,7 +12,7 @@ use Rattle.rw_rule.proofs.rule.Rule.of_checked.Goals as goal
 pub returns-clause-over : goal.returns-clause-over
 returns-clause-over g c =
     let C : Signature = signature_of c.args.schema.now in
-    let ops : ℕ = length (entries c.args._ops.now) in
+    let ops : ℕ = length (entries c.args.ops.now) in
     let lists : RuleLists = rule_of_parts c.args.parts in
     let sound : HasFault C ops lists None = search rules in
     rw c.of_parts.ensures (built_over C ops lists c.requires.over sound)
