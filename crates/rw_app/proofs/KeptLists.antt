@@ -52,10 +52,15 @@ lists_kept document rows columns category sound keeps rules watches =
     let lists = document_lists document in
     let listed = list_in lists rows in
     let of_rules = map_same (λ (rule : RuleLists). IsListable C rule.goal) (λ (rule : RuleLists). fresh_list C (instance_of_columns columns) rule.goal)
-        (λ (rule : RuleLists). fresh_list C (instance_of C rows) rule.goal)
-        (λ rule listable. same_list C rows columns rule.goal category sound keeps listable) document.rules.items rules in
+    (λ (rule : RuleLists). fresh_list C (instance_of C rows) rule.goal)
+    (λ rule listable. same_list C rows columns rule.goal category sound keeps listable) document.rules.items rules in
     let of_watches = map_same (λ (watch : Watch). IsListable C (goal_of_parts watch.goal)) (λ (watch : Watch). fresh_list C (instance_of_columns columns) (goal_of_parts watch.goal))
-        (λ (watch : Watch). fresh_list C (instance_of C rows) (goal_of_parts watch.goal))
-        (λ watch listable. same_list C rows columns (goal_of_parts watch.goal) category sound keeps listable) document.watches.items watches in
-    rw (of_rules, of_watches, map-append listed (map goal_of_rule lists.rules) lists.watches, map_twice goal_of_rule listed lists.rules,
-      map_twice lists_of_watch listed document.watches.items) refl
+    (λ (watch : Watch). fresh_list C (instance_of C rows) (goal_of_parts watch.goal))
+    (λ watch listable. same_list C rows columns (goal_of_parts watch.goal) category sound keeps listable) document.watches.items watches in
+    rw (
+      of_rules,
+      of_watches,
+      map-append listed (map goal_of_rule lists.rules) lists.watches,
+      map_twice goal_of_rule listed lists.rules,
+      map_twice lists_of_watch listed document.watches.items,
+    ) refl

@@ -1,12 +1,9 @@
 -- The goals of a sound document can be listed.
 use Rattle.std.proofs.Common.{◌≡◌, ℕ, Bool, true, ◌&&◌, List, [], ◌∷◌, refl, slice_index_or}
-use Rattle.std.specs.List.{All}
 use Rattle.std.proofs.lemmas.Bool.{and_parts}
-use Rattle.rw_schema.specs.Presentation.{signature_of}
 use Rattle.rw_rule.specs.Images.{is_injective}
 use Rattle.rw_rule.specs.PlainRules.{has_no_conditions, is_dpo, is_monic_where_many, is_plain}
-use Rattle.rw_rule.specs.RuleLists.{ConditionLists, RuleLists, WatchLists}
-use Rattle.rw_lists.specs.Fresh.{IsListable}
+use Rattle.rw_rule.specs.RuleLists.{ConditionLists, RuleLists}
 use Rattle.rw_document.specs.Models.{DocumentLists, IsSound}
 use Rattle.rw_app.specs.Kept.{HasGoals}
 

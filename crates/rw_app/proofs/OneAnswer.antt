@@ -20,7 +20,6 @@ use Rattle.rw_app.specs.Answers.{IsAnswerTo, told}
 use Rattle.rw_app.specs.Commands.{Request, matches, run, check, pushout, pullback}
 use Rattle.rw_app.specs.Limits.{frame_of_span, base_of_cospan, TellsPushout, IsPushoutAnswer, TellsPullback, IsPullbackAnswer}
 use Rattle.rw_app.specs.OneAnswer.{HasOneAnswer}
-use Rattle.rw_app.specs.Runs.{Run}
 use Rattle.rw_app.proofs.OneRun.{one_run}
 use Rattle.rw_app.proofs.ReadSides.{HasSidesApart, IsReadWell, document_well}
 

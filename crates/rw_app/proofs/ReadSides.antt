@@ -1,7 +1,7 @@
 -- What is read as a document has what determines the pushout of its span: its schema presents a category, and the names of both
 -- sides are each there once.
-use Rattle.std.proofs.Common.{◌≡◌, ◌<◌, ◌≤◌, ℕ, not, ◌&&◌, map, List, [], length, Option, Some, None, Result, Ok, slice_index, sym, subst, inl, inr, arith}
-use Rattle.std.specs.List.{list_all, range_with_len}
+use Rattle.std.proofs.Common.{◌≡◌, ℕ, map, List, [], length, Option, Some, None, Ok, slice_index, sym, subst, inl, inr, arith}
+use Rattle.std.specs.List.{range_with_len}
 use Rattle.std.specs.Prelude.{codes, IfSome, is_none}
 use Rattle.std.proofs.lemmas.Bool.{cases_lt}
 use Rattle.std.proofs.lemmas.List.{get_or_past, length-map}
@@ -14,14 +14,12 @@ use Rattle.rw_schema.specs.SchemaFaults.{schema_fault}
 use Rattle.rw_schema.specs.Signature.{Signature, IsCategory}
 use Rattle.rw_schema.proofs.Lists.{list_at_map}
 use Rattle.rw_schema.proofs.Schemas.{presents_category}
-use Rattle.rw_schema.specs.declared.section.Section.TheVariants.{Whole, Schema, Span}
+use Rattle.rw_schema.specs.declared.section.Section.TheVariants.{Schema, Span}
 use Rattle.rw_spec.specs.Distinct.{AreDistinct}
 use Rattle.rw_spec.specs.Tabled.{Tabled}
 use Rattle.rw_spec.proofs.Ranges.{range_distinct}
 use Rattle.rw_table.specs.TableFaults.{equation_fault}
 use Rattle.rw_terms.specs.OpTables.{OpEntry}
-use Rattle.rw_rule.specs.RuleLists.{WatchLists}
-use Rattle.rw_doc.specs.declared.fault.DocFault.{DocFault}
 use Rattle.rw_doc.specs.declared.piece.Piece.{Piece}
 use Rattle.rw_doc.specs.Chain.{some_or}
 use Rattle.rw_doc.specs.Faults.{fault_of}

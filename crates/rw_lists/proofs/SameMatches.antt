@@ -1,12 +1,11 @@
 -- Instances that are the same have the same matches.
-use Rattle.std.proofs.Common.{◌≡◌, ◌∙◌, ℕ, ◌<◌, true, Some, List, Contains, Bool, length, map, sum, option_map, slice_get, sym, ap, subst, inl, inr, arith}
+use Rattle.std.proofs.Common.{◌≡◌, ◌∙◌, ℕ, ◌<◌, true, Some, List, Contains, Bool, length, sum, option_map, slice_get, sym, ap, subst, inl, inr, arith}
 use Rattle.std.specs.Cmp.Lexicographic.{slice_cmp}
 use Rattle.std.specs.Ordering.{nat_cmp}
 use Rattle.std.proofs.lemmas.Cmp.{nat_list_cmp_total}
 use Rattle.std.proofs.lemmas.Option.{slice_get_cases, slice_get-map}
 use Rattle.rw_schema.specs.declared.atom.Atom.{Atom}
 use Rattle.rw_schema.specs.declared.ids.ObjectId.{ObjectId}
-use Rattle.rw_schema.specs.declared.signature.ArrowEnds.{ArrowEnds}
 use Rattle.rw_schema.specs.declared.signature.AttrEnds.{AttrEnds}
 use Rattle.rw_schema.specs.Signature.{Signature, IsCategory}
 use Rattle.rw_schema.proofs.Paths.{number_at}
@@ -19,7 +18,6 @@ use Rattle.rw_spec.proofs.OneOrder.{one_order}
 use Rattle.rw_spec.proofs.Ranges.{range_has}
 use Rattle.rw_spec.proofs.Sequences.{contained_in_filter}
 use Rattle.rw_spec.proofs.Tuples.{is_tuple}
-use Rattle.rw_pattern.specs.declared.cell.PatternCell.{PatternCell}
 use Rattle.rw_pattern.specs.Matches.{candidates, is_match, matches, MeetsCells, IsMatch}
 use Rattle.rw_pattern.specs.PatternFaults.{IsPatternOver, IsPatternOf}
 use Rattle.rw_pattern.specs.PatternLists.{PatternLists, size_of, holder, holders_in, instance_of_pattern, map_of_tuple}
