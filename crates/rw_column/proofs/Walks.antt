@@ -1,9 +1,10 @@
 -- The places of a number from one on, by the first of them.
-use Rattle.std.proofs.Common.{◌≡◌, ℕ, suc, zero, ◌+◌, ◌-◌, ◌<◌, ◌≤◌, Bool, true, false, List, [], ◌∷◌, length, filter, cond, refl, sym, ap, ◌∙◌, inl, inr, subst, arith, get_or, eqb, eq-eqb, ne_eqb}
+use Rattle.std.proofs.Common.{◌≡◌, ℕ, suc, zero, ◌+◌, ◌-◌, ◌<◌, ◌≤◌, Bool, true, false, List, [], ◌∷◌, length, filter, refl, sym, ap, ◌∙◌, inl, inr, subst, arith, get_or, eqb, eq-eqb, ne_eqb}
 use Rattle.std.specs.Prelude.{◌≢◌}
 use Rattle.std.specs.List.{range_with_len}
 use Rattle.std.proofs.lemmas.Bool.{cases_eq}
-use Rattle.rw_column.specs.Threads.{nothing, IsFirstFrom, places_from}
+use Rattle.rw_column.specs.Threads.{nothing, places_from}
+use Rattle.rw_column.specs.inner.Links.{IsFirstFrom}
 
 -- no number of the range passes the test
 none_in : (test : ℕ → Bool) (m k : ℕ) → ((z : ℕ) → k ≤ z → z < k + m → test z ≡ false) → filter test (range_with_len k m) ≡ []
@@ -25,17 +26,17 @@ first_in test (suc m) k s none from to passes =
           rw (none k (omega arith) (omega arith)) (rest ∙ rw short refl)
     ]
 
--- where no place is left
-pub walked : (values : List ℕ) (value from : ℕ) → length values ≤ nothing → IsFirstFrom (length values) (λ z. get_or values z 0) value from nothing
+-- where no place is left, the list is empty
+nowhere : (values : List ℕ) (value from : ℕ) → length values ≤ nothing → IsFirstFrom (length values) (λ z. get_or values z 0) value from nothing
     → places_from values value from ≡ []
-walked values value from few first =
+nowhere values value from few first =
     none_in (λ z. eqb (get_or values z 0) value) (length values - from) from (λ z above below.
     ne_eqb (get_or values z 0) value (λ is. let far : nothing ≤ z = first.least z above (omega arith) is in omega (arith, few, below, far)))
 
--- where a place is left
-pub walks : (values : List ℕ) (value from stop : ℕ) → stop ≢ nothing → IsFirstFrom (length values) (λ z. get_or values z 0) value from stop
+-- where a place is left, it stands first in the list, and those behind it follow
+somewhere : (values : List ℕ) (value from stop : ℕ) → stop ≢ nothing → IsFirstFrom (length values) (λ z. get_or values z 0) value from stop
     → places_from values value from ≡ stop ∷ places_from values value (stop + 1)
-walks values value from stop some first =
+somewhere values value from stop some first =
     let at = first.there some in
     let long : from + (length values - from) - (stop + 1) ≡ length values - (stop + 1) = omega (arith, at.0, at.1) in
     first_in (λ z. eqb (get_or values z 0) value) (length values - from) from stop
@@ -57,16 +58,16 @@ module _ (values : List ℕ) (value : ℕ) (few : length values ≤ nothing) whe
       elim (cases_eq s nothing) [
         | inl none ↦
             let from_nothing : IsFirstFrom (length values) (λ z. get_or values z 0) value nothing nothing =
-              record { least = λ place above within is. above; there = λ some. absurd (some refl) } in
-            ap (places_from values value) none ∙ walked values value nothing few from_nothing
-            ∙ sym (walked values value from few (subst (IsFirstFrom (length values) (λ z. get_or values z 0) value from) none first))
+            record { least = λ place above within is. above; there = λ some. absurd (some refl) } in
+            ap (places_from values value) none ∙ nowhere values value nothing few from_nothing
+            ∙ sym (nowhere values value from few (subst (IsFirstFrom (length values) (λ z. get_or values z 0) value from) none first))
         | inr some ↦
             let at = first.there some in
-            walks values value s s some (itself s (λ other. (at.1, at.2)) (omega (arith, at.1))) ∙ sym (walks values value from s some first)
+            somewhere values value s s some (itself s (λ other. (at.1, at.2)) (omega (arith, at.1))) ∙ sym (somewhere values value from s some first)
       ]
 
   -- one step of a walk
   pub stepped : (x s : ℕ) → x < length values → get_or values x 0 ≡ value → IsFirstFrom (length values) (λ z. get_or values z 0) value (x + 1) s
       → places_from values value x ≡ x ∷ places_from values value s
   stepped x s within is first =
-      walks values value x x (λ e. omega (arith, e)) (itself x (λ some. (within, is)) (omega arith)) ∙ ap (λ rest. x ∷ rest) (sym (skipped (x + 1) s first))
+      somewhere values value x x (λ e. omega (arith, e)) (itself x (λ some. (within, is)) (omega arith)) ∙ ap (λ rest. x ∷ rest) (sym (skipped (x + 1) s first))

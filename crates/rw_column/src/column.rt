@@ -1,20 +1,37 @@
-//! A column of numbers, threaded by its numbers.
+//! Columns of numbers, threaded by their numbers.
+//!
+//! The thread of a number goes from node to node. A node is what a place may follow: node 0 stands before all
+//! places, and node x + 1 is the place x. What a node leads to is a stop: a place, or `NOTHING` at the end. Each
+//! stop knows the node that leads to it, so a place is taken out of its thread by writing two entries.
 
-ghost use Rattle.std.specs.Prelude.{◌≡◌, ◌≢◌, ◌==◌, ◌&&◌, ◌<◌, ◌≤◌, ◌+◌, nat_lt, [], ◌∷◌, ◌++◌, length, replicate, slice_index, slice_set, IfOk};
+ghost use Rattle.std.specs.Prelude.{◌≡◌, ◌≢◌, ◌==◌, ◌&&◌, ◌<◌, ◌≤◌, ◌+◌, nat_lt, [], ◌∷◌, ◌++◌, length, replicate, slice_index, slice_set, IfOk, IsOk, OnOk};
 ghost use Rattle.std.specs.Vec.{vec_capacity};
-ghost use Rattle.rw_column.specs.Threads.{nothing, after, before, IsFirstFrom, IsLed, IsBacked, IsGap};
+ghost use Rattle.rw_column.specs.Threads.{nothing};
+ghost use Rattle.rw_column.specs.inner.Links.{IsFirstFrom, IsLed, IsBacked, IsGap};
+ghost use Rattle.rw_column.specs.inner.Threads.{after, before};
 
 use std::alloc::{AllocError, Global};
 use std::marker::Model;
 
-/// Stands where there is no place and where there is no number.
+/// Stands where there is no place and where there is no number: it is above all of them.
 pub(crate) const NOTHING: u32 = 4294967295;
 
+/// A list of numbers by place, in which the places that have one number are linked in ascending order.
+///
+/// A place is added without a number, gets one by [`Column::link`] and is without one again after
+/// [`Column::unlink`]; to change a number is to do both. Each of these calls takes constant time but for `link`,
+/// and none takes memory. There is memory for as many places and numbers as [`Column::new`] was asked for, and for
+/// more after [`Column::make_room`]: 12 bytes for each place and 8 for each number.
+///
+/// Knuth, "The Art of Computer Programming", volume 1, section 2.2.5, has lists that are linked both ways.
 #[derive(Drop)]
 pub struct Column {
+    // Of each place its number, the place behind it in the thread, and the node before it.
     values: Vec<u32>,
     next: Vec<u32>,
     previous: Vec<u32>,
+
+    // Of each number its first place, and the node of its last one.
     first: Vec<u32>,
     last: Vec<u32>,
 }
@@ -22,7 +39,8 @@ pub struct Column {
 impl Model for Column {
     ghost use Rattle.std.specs.Prelude.{length, min};
     ghost use Rattle.std.specs.Vec.{vec_capacity};
-    ghost use Rattle.rw_column.specs.Threads.{Threaded, IsThreaded};
+    ghost use Rattle.rw_column.specs.Threads.{Threaded};
+    ghost use Rattle.rw_column.specs.inner.Threads.{IsThreaded};
 
     ghost Value = { Threaded };
 
@@ -37,7 +55,8 @@ impl Model for Column {
 }
 
 impl Column {
-    /// A column of so many places without numbers, and of so many numbers that may stand there.
+    /// A column of so many places without numbers, and of so many numbers that may stand there: those below
+    /// `targets`. It takes time in proportion to both.
     pub fn new(alloc: Global, places: u32, targets: u32) -> Result<Column, AllocError>
         ensures values { IfOk result (λ column. column.values ≡ replicate places nothing) }
         ensures targets { IfOk result (λ column. column.targets ≡ targets) }
@@ -51,7 +70,25 @@ impl Column {
         })
     }
 
-    /// A place behind the others, with no number yet.
+    /// Makes room for so many more places and so many more numbers, so that adding them takes no memory. For want
+    /// of memory some of the room may have been made, and the column reads as before.
+    pub fn make_room(&mut self, places: u32, targets: u32) -> Result<(), AllocError>
+        ensures values { self.new.values ≡ self.old.values }
+        ensures targets { self.new.targets ≡ self.old.targets }
+        ensures room { OnOk result (length self.old.values + places ≤ self.new.room) }
+        ensures target_room { OnOk result (self.old.targets + targets ≤ self.new.target_room) }
+        ensures kept_room { self.old.room ≤ self.new.room }
+        ensures kept_target_room { self.old.target_room ≤ self.new.target_room }
+        ensures succeeds { length self.old.values + places ≤ self.old.room → self.old.targets + targets ≤ self.old.target_room → IsOk result }
+    {
+        self.values.reserve(places as usize)?;
+        self.next.reserve(places as usize)?;
+        self.previous.reserve(places as usize)?;
+        self.first.reserve(targets as usize)?;
+        self.last.reserve(targets as usize)
+    }
+
+    /// Adds a place behind the others, with no number yet.
     pub fn add_place(&mut self)
         requires room { length self.old.values < self.old.room }
         requires few { length self.old.values < nothing }
@@ -65,7 +102,7 @@ impl Column {
         push_within(&mut self.previous, 0);
     }
 
-    /// One more number that may stand at places.
+    /// Adds a number, the next one above the others, which stands at no place yet.
     pub fn add_target(&mut self)
         requires room { self.old.targets < self.old.target_room }
         requires few { self.old.targets < nothing }
@@ -78,7 +115,10 @@ impl Column {
         push_within(&mut self.last, 0);
     }
 
-    /// Puts a place without a number into the thread of one.
+    /// Gives a place that has no number one, and puts it between the places of that number at its place in their order.
+    ///
+    /// Where it belongs is looked for from the number's last place backwards: one step for each place of the number
+    /// behind it. So a place behind all others of its number, as one that was just added, is linked in constant time.
     pub fn link(&mut self, place: u32, value: u32)
         requires place { place < length self.old.values }
         requires value { value < self.old.targets }
@@ -93,7 +133,7 @@ impl Column {
         back(&mut self.previous, &mut self.last, value, stop, place + 1);
     }
 
-    /// Takes the place out of the thread of its number.
+    /// Takes its number from a place, and takes the place out from between the other places of that number.
     pub fn unlink(&mut self, place: u32)
         requires place { place < length self.old.values }
         requires some { slice_index self.old.values place ≢ nothing }
@@ -108,6 +148,7 @@ impl Column {
     }
 
     /// The first place that has the number, or nothing.
+    #[tactic(auto, using(crate::proofs::Threads::first_of))]
     pub(crate) fn first(&self, value: u32) -> u32
         requires { value < self.now.targets }
         ensures first { IsFirstFrom (length self.now.values) (slice_index self.now.values) value 0 result }
@@ -116,7 +157,8 @@ impl Column {
         entry(&self.first, value)
     }
 
-    /// The next place that has the same number as this one, or nothing.
+    /// The next place behind this one that has the same number, or nothing.
+    #[tactic(auto, using(crate::proofs::Threads::next_of))]
     pub(crate) fn next(&self, place: u32) -> u32
         requires place { place < length self.now.values }
         requires value { slice_index self.now.values place < self.now.targets }
@@ -126,7 +168,7 @@ impl Column {
         entry(&self.next, place)
     }
 
-    /// Whether the place is there and has the number.
+    /// Whether there is such a place and it has the number. So for 2^32 - 1: whether it is there and has none.
     pub fn has(&self, place: u32, value: u32) -> bool
         ensures { result ≡ (nat_lt place (length self.now.values) && slice_index self.now.values place == value) }
     {
@@ -143,7 +185,7 @@ impl Column {
         self.values.len() as u32
     }
 
-    /// The number at the place.
+    /// The number at the place, or 2^32 - 1 where it has none.
     pub fn value(&self, place: u32) -> u32
         requires { place < length self.now.values }
         ensures { result ≡ slice_index self.now.values place }
@@ -152,7 +194,7 @@ impl Column {
     }
 }
 
-/// Appends the number, for which there is memory.
+/// Appends the number to a list that has memory for it.
 fn push_within(list: &mut Vec<u32>, number: u32)
     requires { length list.old.items < vec_capacity list.old }
     ensures items { list.new.items ≡ list.old.items ++ number ∷ [] }
@@ -162,7 +204,7 @@ fn push_within(list: &mut Vec<u32>, number: u32)
     prove!(pushed.is_ok());
 }
 
-/// The number at the place of the list.
+/// The entry at the place of the list.
 fn entry(list: &Vec<u32>, place: u32) -> u32
     requires { place < length list.now.items }
     ensures { result ≡ slice_index list.now.items place }
@@ -170,7 +212,7 @@ fn entry(list: &Vec<u32>, place: u32) -> u32
     list[place as usize]
 }
 
-/// The node of the number behind which the place stands, and the place before which it stands.
+/// Where a place without a number belongs in the thread of one: the node before it and the stop behind it.
 fn gap(column: &Column, place: u32, value: u32) -> (u32, u32)
     requires place { place < length column.now.values }
     requires value { value < column.now.targets }
@@ -186,7 +228,7 @@ fn gap(column: &Column, place: u32, value: u32) -> (u32, u32)
     (node, stop)
 }
 
-/// Lets the node of the number lead to another place.
+/// Lets the node of the number lead to the stop.
 fn lead(next: &mut Vec<u32>, first: &mut Vec<u32>, value: u32, node: u32, stop: u32)
     requires value { value < length first.old.items }
     requires node { node < length next.old.items + 1 }
@@ -203,7 +245,7 @@ fn lead(next: &mut Vec<u32>, first: &mut Vec<u32>, value: u32, node: u32, stop: 
     }
 }
 
-/// Lets the place be led to by the node.
+/// Lets the stop of the number know the node as the one that leads to it.
 fn back(previous: &mut Vec<u32>, last: &mut Vec<u32>, value: u32, stop: u32, node: u32)
     requires value { value < length last.old.items }
     requires stop { stop ≢ nothing → stop < length previous.old.items }

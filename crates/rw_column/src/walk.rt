@@ -9,7 +9,9 @@ use rw_steps::Steps;
 use std::marker::Model;
 use std::sync::ledger::Ledger;
 
-/// What is left of a walk over the places that have one number, in ascending order.
+/// What is left of a walk over the places of a column that have one number, in ascending order.
+///
+/// The walk borrows its column and holds one place: it takes no memory, and the column stays as it is meanwhile.
 #[derive(Drop)]
 pub struct Walk<'a> {
     column: &'a Column,
@@ -19,7 +21,8 @@ pub struct Walk<'a> {
 
 impl<'a> Model for Walk<'a> {
     ghost use Rattle.std.specs.Prelude.{ℕ, ◌<◌, ◌≤◌, List, length, slice_index};
-    ghost use Rattle.rw_column.specs.Threads.{nothing, places_from, IsStop};
+    ghost use Rattle.rw_column.specs.Threads.{nothing, places_from};
+    ghost use Rattle.rw_column.specs.inner.Links.{IsStop};
 
     ghost Value = { List ℕ };
 
@@ -29,7 +32,8 @@ impl<'a> Model for Walk<'a> {
 }
 
 impl<'a> Walk<'a> {
-    /// The walk over all places that have the number.
+    /// The walk over all places that have the number. It takes constant time, and no step is counted.
+    #[tactic(auto, using(crate::proofs::Walks::skipped))]
     pub fn new(column: &'a Column, value: u32) -> Walk<'a>
         requires { value < column.now.targets }
         ensures { result ≡ places_from column.now.values value 0 }
@@ -41,7 +45,9 @@ impl<'a> Walk<'a> {
         }
     }
 
-    /// The next place, which is counted as one step, or nothing at the end.
+    /// The next place, or nothing at the end, and then at each further call. It takes constant time and counts one
+    /// step, also at the end: so a whole walk counts one step more than it has places.
+    #[tactic(auto, using(crate::proofs::Walks::stepped))]
     pub fn next<L: Ledger>(&mut self, steps: &mut Steps<L>) -> Option<u32>
         ensures gives { MatchOption result ((self.old ≡ []) × (self.new ≡ [])) (λ place. self.old ≡ place ∷ self.new) }
         ensures ticks { steps.new ≡ steps.old + 1 }

@@ -1,6 +1,4 @@
-use Rattle.std.proofs.Common.{◌∙◌, sym, subst, ap, length, ◌<◌, ◌+◌, ℕ, get_or, rules}
-use Rattle.rw_column.specs.Threads.{IsAhead}
-use Rattle.rw_column.proofs.Threads.{ahead_first, ahead_within, ahead_next}
+use Rattle.rw_column.proofs.Threads.{ahead_first, ahead_within, ahead_next, ahead_less}
 use Rattle.rw_column.proofs.column.gap.Goals as goal
 
 pub loop-node-init : goal.loop-node-init
@@ -20,10 +18,10 @@ entry-node-requires-in-loop-node c =
 pub loop-node-smaller : goal.loop-node-smaller
 loop-node-smaller c =
     let s = c.column.inside in
-    (ahead_next s.values.items s.next.items s.previous.items s.first.items s.last.items c.column.invariant c.args.place c.args.value
+    ahead_less s.values.items s.next.items s.previous.items s.first.items s.last.items c.column.invariant c.args.place c.args.value
     (rw (← c.column.view_is) at c.requires.place) (rw (← c.column.view_is) at c.requires.value) (rw (← c.column.view_is) at c.requires.free)
     c.loop-node.node c.loop-node.stop c.entry-node-in-loop-node.result (rw (← c.column.view_is) at c.loop-node.invariant) c.loop-node-test.true
-    c.entry-node-in-loop-node.ensures).1
+    c.entry-node-in-loop-node.ensures
 
 pub loop-node-preserved : goal.loop-node-preserved
 loop-node-preserved c =
@@ -31,4 +29,4 @@ loop-node-preserved c =
     rw (← c.column.view_is) (ahead_next s.values.items s.next.items s.previous.items s.first.items s.last.items c.column.invariant c.args.place c.args.value
     (rw (← c.column.view_is) at c.requires.place) (rw (← c.column.view_is) at c.requires.value) (rw (← c.column.view_is) at c.requires.free)
     c.loop-node.node c.loop-node.stop c.entry-node-in-loop-node.result (rw (← c.column.view_is) at c.loop-node.invariant) c.loop-node-test.true
-    c.entry-node-in-loop-node.ensures).0
+    c.entry-node-in-loop-node.ensures)

@@ -1,5 +1,5 @@
-use Rattle.std.proofs.Common.{ℕ, length, get_or}
-use Rattle.rw_column.specs.Threads.{IsAhead}
+use Rattle.std.proofs.Common.{length, get_or}
+use Rattle.rw_column.specs.inner.Links.{IsAhead}
 use Rattle.rw_column.proofs.column.gap.Given as goal
 
 abbrev pub invariant-loop-node : goal.invariant-loop-node

@@ -1,4 +1,3 @@
-use Rattle.std.proofs.Common.{rules}
 use Rattle.rw_column.proofs.Threads.{thread_widened}
 use Rattle.rw_column.proofs.column.Column.add_target.Goals as goal
 

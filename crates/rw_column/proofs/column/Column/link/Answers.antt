@@ -1,4 +1,3 @@
-use Rattle.std.proofs.Common.{◌∙◌, sym, subst, ap, length, ◌<◌, ◌+◌, ℕ, get_or, rules}
 use Rattle.rw_column.proofs.Threads.{thread_linked}
 use Rattle.rw_column.proofs.column.Column.link.Goals as goal
 

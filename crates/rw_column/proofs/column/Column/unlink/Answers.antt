@@ -1,6 +1,3 @@
-use Rattle.std.proofs.Common.{◌∙◌, sym, subst, ap, length, ◌<◌, ◌+◌, ℕ, get_or, rules}
-use Rattle.std.specs.Prelude.{◌≢◌}
-use Rattle.rw_column.specs.Threads.{nothing}
 use Rattle.rw_column.proofs.Threads.{node_within, stop_within, thread_unlinked}
 use Rattle.rw_column.proofs.column.Column.unlink.Goals as goal
 
