@@ -33,14 +33,21 @@ fn main(rt: HostRuntime) -> anyhow::Result<()> {
 fn print_walks(rt: &impl Print, alloc: Global, schema: &Schema) -> anyhow::Result<()>
     requires { signature_of schema.now ≡ graphs }
 {
-    for walk in &triangle_walks::<Brand>(alloc, schema, Blank::new(1))? {
+    for walk in &triangle_walks(alloc, schema)? {
         println!(rt; "walk {:?}", walk.names())?;
     }
     Ok(())
 }
 
-/// The walks of two edges in a triangle with a tail. Nobody reads how many steps they took.
-fn triangle_walks<L: Ledger>(
+/// The walks of two edges in a triangle with a tail.
+fn triangle_walks(alloc: Global, schema: &Schema) -> anyhow::Result<Vec<Tuple>>
+    requires { signature_of schema.now ≡ graphs }
+{
+    counted_walks::<Brand>(alloc, schema, Blank::new(1))
+}
+
+/// The walks, with a counter of steps that nobody reads.
+fn counted_walks<L: Ledger>(
     alloc: Global,
     schema: &Schema,
     blank: Blank,
