@@ -65,7 +65,7 @@ pub record IsSamePlace (object w c object' w' c' : ℕ) : Type 0 where
   pub same_attribute : c ≡ c'
 
 -- of two places one comes before the other, or they are one
-place_cases : (object w c object' w' c' : ℕ)
+pub place_cases : (object w c object' w' c' : ℕ)
     → IsEarlierPlace object w c object' w' c' ⊎ (IsEarlierPlace object' w' c' object w c ⊎ IsSamePlace object w c object' w' c')
 place_cases object w c object' w' c' =
     elim (cases_lt object object') [

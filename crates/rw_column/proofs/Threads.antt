@@ -5,7 +5,7 @@ use Rattle.std.specs.Prelude.{◌≢◌}
 use Rattle.std.proofs.lemmas.Bool.{cases_eq}
 use Rattle.std.proofs.lemmas.List.{get_or_append_left, get_or-append_right}
 use Rattle.rw_column.specs.Threads.{nothing}
-use Rattle.rw_column.specs.inner.Links.{IsNode, IsFirstFrom, AreLinks, IsLed, IsBacked, IsAhead, IsGap}
+use Rattle.rw_column.specs.inner.Links.{IsNode, IsStop, IsFirstFrom, AreLinks, IsLed, IsBacked, IsAhead, IsGap}
 use Rattle.rw_column.specs.inner.Threads.{IsThreaded, after, before}
 use Rattle.rw_column.proofs.Links.{node_of, unlinked, linked, grown, widened}
 
@@ -139,21 +139,33 @@ module _ (V N P F L : List ℕ) (threaded : IsThreaded V N P F L) (x : ℕ) (wit
 
 -- ---- putting a place without a number into the thread of one
 
-module _ (V N P F L : List ℕ) (threaded : IsThreaded V N P F L) (x v : ℕ) (within : x < length V) (known : v < length F) (free : get_or V x 0 ≡ nothing) where
-  -- each place is ahead of the end, which the last node of the number leads to
-  pub ahead_first : (node : ℕ) → node ≡ get_or L v 0 → IsAhead (length V) (λ z. get_or V z 0) v x node nothing
-  ahead_first node is =
-      let few = threaded.few in
-      let last : before P L v nothing ≡ node = sym is in
-      let at = threaded.links.back v nothing known (λ some. absurd (some refl)) in
+module _ (V N P F L : List ℕ) (threaded : IsThreaded V N P F L) (x v : ℕ) (known : v < length F) where
+  -- a place before a stop of the number is ahead of it, and of the node that leads there
+  ahead_of : (node stop : ℕ) → IsStop (length V) (λ z. get_or V z 0) v stop → x < stop → before P L v stop ≡ node → IsAhead (length V) (λ z. get_or V z 0) v x node stop
+  ahead_of node stop is_stop less last =
+      let at = threaded.links.back v stop known is_stop in
       let is_node : IsNode (length V) (λ z. get_or V z 0) v node = subst (IsNode (length V) (λ z. get_or V z 0) v) last at.0 in
-      let none : after N F v node ≡ nothing = subst (λ (q : ℕ). after N F v q ≡ nothing) last at.1 in
+      let leads : after N F v node ≡ stop = subst (λ (q : ℕ). after N F v q ≡ stop) last at.1 in
       record {
         is_node = is_node;
-        leads = subst (IsFirstFrom (length V) (λ z. get_or V z 0) v node) none (threaded.links.leads v node known is_node);
-        ahead = omega arith;
+        leads = subst (IsFirstFrom (length V) (λ z. get_or V z 0) v node) leads (threaded.links.leads v node known is_node);
+        ahead = less;
       }
 
+  -- the last node leads to the end
+  pub ahead_end : (node stop : ℕ) → IsStop (length V) (λ z. get_or V z 0) v stop → x < length V → stop ≡ nothing → node ≡ get_or L v 0
+      → IsAhead (length V) (λ z. get_or V z 0) v x node stop
+  ahead_end node stop is_stop within end is = ahead_of node stop is_stop (omega (arith, within, end, threaded.few)) (rw (eq-eqb stop nothing end) (sym is))
+
+  -- and the node before a place leads to the place
+  pub ahead_place : (node stop : ℕ) → IsStop (length V) (λ z. get_or V z 0) v stop → x < stop → stop ≢ nothing → node ≡ get_or P stop 0
+      → IsAhead (length V) (λ z. get_or V z 0) v x node stop
+  ahead_place node stop is_stop less some is =
+      let few = threaded.few in
+      let at = is_stop some in
+      ahead_of node stop is_stop less (before_place P L v stop (omega (arith, at.0)) ∙ sym is)
+
+module _ (V N P F L : List ℕ) (threaded : IsThreaded V N P F L) (x v : ℕ) (within : x < length V) (known : v < length F) (free : get_or V x 0 ≡ nothing) where
   -- the node that stands behind the place is in range
   pub ahead_within : (node stop : ℕ) → IsAhead (length V) (λ z. get_or V z 0) v x node stop → x < node → node - 1 < length P
   ahead_within node stop ahead more = omega (arith, threaded.previouses, (ahead.is_node (node - 1) (omega arith)).0)
@@ -163,19 +175,10 @@ module _ (V N P F L : List ℕ) (threaded : IsThreaded V N P F L) (x v : ℕ) (w
       → IsAhead (length V) (λ z. get_or V z 0) v x node' (node - 1)
   ahead_next node stop node' ahead more is =
       let few = threaded.few in
-      let few_targets = threaded.few_targets in
       let w : ℕ = node - 1 in
       let here : (w < length V) × (get_or V w 0 ≡ v) = ahead.is_node w (omega arith) in
-      let at = threaded.links.back v w known (λ some. here) in
-      let last : before P L v w ≡ node' = before_place P L v w (omega (arith, here.0)) ∙ sym is in
-      let is_node : IsNode (length V) (λ z. get_or V z 0) v node' = subst (IsNode (length V) (λ z. get_or V z 0) v) last at.0 in
-      let leads_w : after N F v node' ≡ w = subst (λ (q : ℕ). after N F v q ≡ w) last at.1 in
-      let apart : x ≢ w = λ e. omega (arith, sym here.1 ∙ subst (λ (z : ℕ). get_or V z 0 ≡ nothing) e free) in
-      record {
-        is_node = is_node;
-        leads = subst (IsFirstFrom (length V) (λ z. get_or V z 0) v node') leads_w (threaded.links.leads v node' known is_node);
-        ahead = omega (arith, apart);
-      }
+      let apart : x ≢ w = λ e. omega (arith, threaded.few_targets, sym here.1 ∙ subst (λ (z : ℕ). get_or V z 0 ≡ nothing) e free) in
+      ahead_place V N P F L threaded x v known node' w (λ some. here) (omega (arith, apart)) (λ e. omega (arith, here.0, e)) is
 
   -- the node before a place is less than the place's own
   pub ahead_less : (node stop node' : ℕ) → IsAhead (length V) (λ z. get_or V z 0) v x node stop → x < node → node' ≡ get_or P (node - 1) 0 → node' < node

@@ -7,7 +7,7 @@
 ghost use Rattle.std.specs.Prelude.{◌≡◌, ◌≢◌, ◌==◌, ◌&&◌, ◌<◌, ◌≤◌, ◌+◌, nat_lt, [], ◌∷◌, ◌++◌, length, replicate, slice_index, slice_set, IfOk, IsOk, OnOk};
 ghost use Rattle.std.specs.Vec.{vec_capacity};
 ghost use Rattle.rw_column.specs.Threads.{nothing};
-ghost use Rattle.rw_column.specs.inner.Links.{IsFirstFrom, IsLed, IsBacked, IsGap};
+ghost use Rattle.rw_column.specs.inner.Links.{IsStop, IsFirstFrom, IsLed, IsBacked, IsAhead, IsGap};
 ghost use Rattle.rw_column.specs.inner.Threads.{after, before};
 
 use std::alloc::{AllocError, Global};
@@ -19,8 +19,8 @@ pub(crate) const NOTHING: u32 = 4294967295;
 /// A list of numbers by place, in which the places that have one number are linked in ascending order.
 ///
 /// A place is added without a number, gets one by [`Column::link`] and is without one again after
-/// [`Column::unlink`]; to change a number is to do both. Each of these calls takes constant time but for `link`,
-/// and none takes memory. There is memory for as many places and numbers as [`Column::new`] was asked for, and for
+/// [`Column::unlink`]; to change a number is to do both. Each of these calls takes constant time but for `link` and
+/// [`Column::link_before`], and none takes memory. There is memory for as many places and numbers as [`Column::new`] was asked for, and for
 /// more after [`Column::make_room`]: 12 bytes for each place and 8 for each number.
 ///
 /// Knuth, "The Art of Computer Programming", volume 1, section 2.2.5, has lists that are linked both ways.
@@ -125,7 +125,33 @@ impl Column {
         requires free { slice_index self.old.values place ≡ nothing }
         ensures { self.new ≡ record { values = slice_set self.old.values place value; targets = self.old.targets; room = self.old.room; target_room = self.old.target_room } }
     {
-        let (node, stop) = gap(self, place, value);
+        self.link_from(place, value, NOTHING);
+    }
+
+    /// Does what [`Column::link`] does, and looks for where the place belongs from a place behind it that has the
+    /// number: one step for each place of the number between the two. So places that are linked one after the other from
+    /// the last to the first, each before the one just linked, take one walk together.
+    pub fn link_before(&mut self, place: u32, value: u32, behind: u32)
+        requires place { place < behind }
+        requires behind { behind < length self.old.values }
+        requires has { slice_index self.old.values behind ≡ value }
+        requires value { value < self.old.targets }
+        requires free { slice_index self.old.values place ≡ nothing }
+        ensures { self.new ≡ record { values = slice_set self.old.values place value; targets = self.old.targets; room = self.old.room; target_room = self.old.target_room } }
+    {
+        self.link_from(place, value, behind);
+    }
+
+    /// Gives the place the number, and looks for where it belongs from a stop of the number backwards.
+    fn link_from(&mut self, place: u32, value: u32, from: u32)
+        requires place { place < length self.old.values }
+        requires value { value < self.old.targets }
+        requires free { slice_index self.old.values place ≡ nothing }
+        requires stop { IsStop (length self.old.values) (slice_index self.old.values) value from }
+        requires ahead { from ≢ nothing → place < from }
+        ensures { self.new ≡ record { values = slice_set self.old.values place value; targets = self.old.targets; room = self.old.room; target_room = self.old.target_room } }
+    {
+        let (node, stop) = gap(self, place, value, from);
         self.values[place as usize] = value;
         self.next[place as usize] = stop;
         self.previous[place as usize] = node;
@@ -185,6 +211,13 @@ impl Column {
         self.values.len() as u32
     }
 
+    /// How many numbers there are: those below it may stand at places.
+    pub fn targets(&self) -> u32
+        ensures { result ≡ self.now.targets }
+    {
+        self.first.len() as u32
+    }
+
     /// The number at the place, or 2^32 - 1 where it has none.
     pub fn value(&self, place: u32) -> u32
         requires { place < length self.now.values }
@@ -212,20 +245,38 @@ fn entry(list: &Vec<u32>, place: u32) -> u32
     list[place as usize]
 }
 
-/// Where a place without a number belongs in the thread of one: the node before it and the stop behind it.
-fn gap(column: &Column, place: u32, value: u32) -> (u32, u32)
+/// Where a place without a number belongs in the thread of one: the node before it and the stop behind it, looked for
+/// from a stop backwards.
+fn gap(column: &Column, place: u32, value: u32, from: u32) -> (u32, u32)
     requires place { place < length column.now.values }
     requires value { value < column.now.targets }
     requires free { slice_index column.now.values place ≡ nothing }
+    requires stop { IsStop (length column.now.values) (slice_index column.now.values) value from }
+    requires ahead { from ≢ nothing → place < from }
     ensures { IsGap (length column.now.values) (slice_index column.now.values) value place result.0 result.1 }
 {
-    let mut node = entry(&column.last, value);
-    let mut stop = NOTHING;
+    let mut stop = from;
+    let mut node = node_before(column, place, value, from);
     while node > place {
         stop = node - 1;
         node = entry(&column.previous, stop);
     }
     (node, stop)
+}
+
+/// The node that leads to the stop of the number, which is behind the place.
+fn node_before(column: &Column, place: u32, value: u32, stop: u32) -> u32
+    requires place { place < length column.now.values }
+    requires value { value < column.now.targets }
+    requires stop { IsStop (length column.now.values) (slice_index column.now.values) value stop }
+    requires ahead { stop ≢ nothing → place < stop }
+    ensures { IsAhead (length column.now.values) (slice_index column.now.values) value place result stop }
+{
+    if stop == NOTHING {
+        entry(&column.last, value)
+    } else {
+        entry(&column.previous, stop)
+    }
 }
 
 /// Lets the node of the number lead to the stop.

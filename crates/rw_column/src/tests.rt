@@ -91,3 +91,15 @@ fn takes_a_place_and_a_number_within_its_room(rt: HostRuntime) -> Result<(), All
     assert!(rt; walks(alloc, &column, 3, &[5])?);
     Ok(())
 }
+
+#[test]
+fn links_places_before_one_that_is_there(rt: HostRuntime) -> Result<(), AllocError> {
+    let alloc = rt.alloc();
+    let mut column = sample(alloc)?;
+    column.unlink(0);
+    column.unlink(3);
+    column.link_before(3, 1, 4);
+    column.link_before(0, 1, 3);
+    assert!(rt; walks(alloc, &column, 1, &[0, 1, 3, 4])?);
+    Ok(())
+}

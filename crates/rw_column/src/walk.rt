@@ -47,12 +47,20 @@ impl<'a> Walk<'a> {
 
     /// The next place, or nothing at the end, and then at each further call. It takes constant time and counts one
     /// step, also at the end: so a whole walk counts one step more than it has places.
-    #[tactic(auto, using(crate::proofs::Walks::stepped))]
     pub fn next<L: Ledger>(&mut self, steps: &mut Steps<L>) -> Option<u32>
         ensures gives { MatchOption result ((self.old ≡ []) × (self.new ≡ [])) (λ place. self.old ≡ place ∷ self.new) }
         ensures ticks { steps.new ≡ steps.old + 1 }
     {
         steps.tick();
+        self.advance()
+    }
+
+    /// The next place, as [`Walk::next`] gives it, where no step is counted: for walks that pass over some places
+    /// and count what they give.
+    #[tactic(auto, using(crate::proofs::Walks::stepped))]
+    pub fn advance(&mut self) -> Option<u32>
+        ensures { MatchOption result ((self.old ≡ []) × (self.new ≡ [])) (λ place. self.old ≡ place ∷ self.new) }
+    {
         let place = self.place;
         if place == NOTHING {
             return None;

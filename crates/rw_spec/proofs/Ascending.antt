@@ -1,9 +1,12 @@
 -- Ascending numbers.
-use Rattle.std.proofs.Common.{◌≡◌, ℕ, zero, suc, ◌+◌, ◌<◌, ◌≤◌, Bool, true, false, nat_lt, List, [], ◌∷◌, length, get_or, add-one, refl, sym, inl, inr, MatchBool, arith}
-use Rattle.std.specs.List.{AllAdjacentBelow}
-use Rattle.std.proofs.lemmas.Bool.{and_parts, and_from, and_left, and_right, ltb-true, cases_order}
+use Rattle.std.proofs.Common.{◌≡◌, ◌∙◌, ℕ, zero, suc, ◌+◌, ◌<◌, ◌≤◌, Bool, true, false, nat_lt, List, [], ◌∷◌, ◌++◌, filter, length, get_or, add-one, refl, sym, inl, inr, MatchBool, arith}
+use Rattle.std.specs.List.{AllAdjacentBelow, Contains}
+use Rattle.std.proofs.lemmas.Bool.{and_parts, and_from, and_left, and_right, ltb-true, lt-ltb, cases_Bool, cases_order}
+use Rattle.std.proofs.lemmas.List.{get_or_default}
+use Rattle.std.proofs.lemmas.List.Elements.{Contains-append_cases}
 use Rattle.rw_spec.specs.Distinct.{AreDistinct}
 use Rattle.rw_spec.specs.Ascending.{ascends}
+use Rattle.rw_spec.proofs.Sequences.{contains_here, contains_later, contained_in_filter}
 
 -- the numbers after the first ascend
 pub ascends_rest : (x : ℕ) (xs : List ℕ) → ascends (x ∷ xs) ≡ true → ascends xs ≡ true
@@ -66,7 +69,7 @@ ascends_few (x ∷ xs) bound up below =
     omega arith
 
 -- numbers of which each is less than the next one ascend
-ascends_all : (xs : List ℕ) → ((k : ℕ) → suc k < length xs → nat_lt (get_or xs k 0) (get_or xs (suc k) 0) ≡ true) → ascends xs ≡ true
+pub ascends_all : (xs : List ℕ) → ((k : ℕ) → suc k < length xs → nat_lt (get_or xs k 0) (get_or xs (suc k) 0) ≡ true) → ascends xs ≡ true
 ascends_all [] each = refl
 ascends_all (x ∷ []) each = refl
 ascends_all (x ∷ y ∷ xs) each =
@@ -87,3 +90,37 @@ pub ascends_answer : (xs : List ℕ) (answer : Bool)
     → answer ≡ ascends xs
 ascends_answer xs true each = sym (ascends_all xs (λ k within. sym (rw add-one at (each k 0 (omega arith)))))
 ascends_answer xs false (k, within, fails) = sym (ascends_none xs k (omega arith) (sym (rw add-one at (fails 0))))
+
+-- numbers ascend behind one that is below each of them
+pub ascends_behind : (x : ℕ) (xs : List ℕ) → ((y : ℕ) → Contains xs y → x < y) → ascends xs ≡ true → ascends (x ∷ xs) ≡ true
+ascends_behind x [] below up = refl
+ascends_behind x (y ∷ xs) below up = and_from (nat_lt x y) (ascends (y ∷ xs)) (lt-ltb x y (below y (contains_here y xs))) up
+
+-- the first of ascending numbers is below each later one
+pub first_below : (x : ℕ) (xs : List ℕ) (y : ℕ) → ascends (x ∷ xs) ≡ true → Contains xs y → x < y
+first_below x xs y up (k, within, there) =
+    let less : x < get_or xs k 0 = ascends_apart (x ∷ xs) zero (suc k) up (omega arith) (omega arith) in
+    let is : get_or xs k 0 ≡ y = get_or_default xs k 0 y within ∙ there in
+    omega arith
+
+-- the ascending numbers that pass a test ascend
+pub ascends_filter : (test : ℕ → Bool) (xs : List ℕ) → ascends xs ≡ true → ascends (filter test xs) ≡ true
+ascends_filter test [] up = refl
+ascends_filter test (x ∷ xs) up =
+    let rest : ascends (filter test xs) ≡ true = ascends_filter test xs (ascends_rest x xs up) in
+    elim (cases_Bool (test x)) [
+      | inl kept ↦ rw kept (ascends_behind x (filter test xs) (λ y there. first_below x xs y up (contained_in_filter test xs y there).0) rest)
+      | inr left ↦ rw left rest
+    ]
+
+-- ascending numbers ascend behind others that are below them
+pub ascends_append : (xs ys : List ℕ) → ascends xs ≡ true → ascends ys ≡ true
+    → ((x y : ℕ) → Contains xs x → Contains ys y → x < y) → ascends (xs ++ ys) ≡ true
+ascends_append [] ys up up_later apart = up_later
+ascends_append (x ∷ xs) ys up up_later apart =
+    ascends_behind x (xs ++ ys)
+    (λ y there. elim (Contains-append_cases xs ys y there) [
+      | inl here ↦ first_below x xs y up here
+      | inr later ↦ apart x y (contains_here x xs) later
+    ])
+    (ascends_append xs ys (ascends_rest x xs up) up_later (λ a b there later. apart a b (contains_later x xs a there) later))

@@ -1,5 +1,5 @@
 -- Names that count from 0.
-use Rattle.std.proofs.Common.{◌≡◌, ◌∙◌, ℕ, zero, suc, ◌+◌, ◌<◌, true, nat_lt, List, Contains, length, get_or, refl, sym, arith, zero-add}
+use Rattle.std.proofs.Common.{◌≡◌, ◌∙◌, ℕ, zero, suc, ◌+◌, ◌<◌, ◌≤◌, true, nat_lt, List, Contains, length, get_or, refl, sym, arith, zero-add}
 use Rattle.std.specs.List.{range_with_len}
 use Rattle.std.proofs.lemmas.Bool.{and_from, lt-ltb}
 use Rattle.std.proofs.lemmas.List.FromFn.{length-range_with_len, get_or-range_with_len}
@@ -41,3 +41,15 @@ pub look_range : {A : Type 0} (none : A) (n : ℕ) (entries : List A) (k : ℕ) 
 look_range none n entries k below =
     let within : k < length (range_with_len 0 n) = rw (length-range_with_len 0 n) below in
     rw (own_place n k 0 below) at (look_at none (range_with_len 0 n) entries k (range_distinct n) within)
+
+-- a number of a range is in its bounds
+pub range_bounds : (start count x : ℕ) → Contains (range_with_len start count) x → (start ≤ x) × (x < start + count)
+range_bounds start count x (k, within, there) =
+    let short : k < count = rw (length-range_with_len start count) at within in
+    let is : start + k ≡ x = sym (get_or-range_with_len start count k x short) ∙ there in
+    (omega arith, omega arith)
+
+-- a number in the bounds of a range is there
+pub range_contains : (start count k : ℕ) → k < count → Contains (range_with_len start count) (start + k)
+range_contains start count k short =
+    (k, rw (length-range_with_len start count) short, get_or-range_with_len start count k (start + k) short)

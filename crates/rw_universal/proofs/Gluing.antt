@@ -15,7 +15,7 @@ use Rattle.rw_universal.proofs.Choice.{choose}
 use Rattle.rw_universal.proofs.Paths.{follow_natural}
 
 -- an equation that holds in an instance holds at the images of its parts
-equation_at_image : (C : Signature) → IsCategory C → (X Y : Instance) (f : Map) → IsInstance C X → IsNatural C X Y f
+pub equation_at_image : (C : Signature) → IsCategory C → (X Y : Instance) (f : Map) → IsInstance C X → IsNatural C X Y f
     → (e : ℕ) (equation : Equation) (x w : ℕ) → slice_get C.equations e ≡ Some equation → Has X equation.object.0 x → f equation.object.0 x ≡ w
     → follow Y equation.left w ≡ follow Y equation.right w
 equation_at_image C category X Y f instance natural e equation x w there part is =

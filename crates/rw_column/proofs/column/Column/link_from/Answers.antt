@@ -1,5 +1,5 @@
 use Rattle.rw_column.proofs.Threads.{thread_linked}
-use Rattle.rw_column.proofs.column.Column.link.Goals as goal
+use Rattle.rw_column.proofs.column.Column.link_from.Goals as goal
 
 pub invariant_of-self : goal.invariant_of-self
 invariant_of-self c =
