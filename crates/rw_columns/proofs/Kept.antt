@@ -2,11 +2,9 @@
 use Rattle.std.proofs.Common.{◌≡◌, ◌∙◌, ◌⊎◌, ◌==◌, ℕ, ◌<◌, true, List, [], ◌∷◌, Option, None, Some, Contains, length, get_or, slice_get, slice_index, slice_index_or, refl, sym, ap, subst, inl, inr, arith}
 use Rattle.std.specs.List.{list_any}
 use Rattle.std.proofs.lemmas.Bool.{cases_Bool, cases_lt, both_ways}
-use Rattle.std.proofs.lemmas.Cmp.{nat_cmp_total}
 use Rattle.std.proofs.lemmas.List.{get_or_default, get_or_past}
 use Rattle.std.proofs.lemmas.Option.{slice_get_within}
 use Rattle.std.proofs.lemmas.List.Elements.{Contains-get_or}
-use Rattle.std.specs.Ordering.{nat_cmp}
 use Rattle.rw_schema.specs.declared.atom.Atom.{Atom}
 use Rattle.rw_schema.specs.declared.signature.ArrowEnds.{ArrowEnds}
 use Rattle.rw_schema.specs.RowLists.{RowLists, list_at}
@@ -16,23 +14,21 @@ use Rattle.rw_spec.specs.Instance.{instance_of, look}
 use Rattle.rw_spec.specs.Same.{AreSame}
 use Rattle.rw_spec.proofs.Ascending.{ascends_distinct}
 use Rattle.rw_spec.proofs.Look.{look_at, look_missing, contains_found, found_contained}
-use Rattle.rw_spec.proofs.OneOrder.{one_order}
 use Rattle.rw_spec.proofs.Signatures.{source_is, target_is, holder_is}
-use Rattle.rw_spec.proofs.TuplesAscend.{sorted_from_ascends}
 use Rattle.rw_table.proofs.Checked.{AreShaped, checked_known, shape_known, row_whole, cells_whole, names_ascend}
 use Rattle.rw_table.proofs.TableInstance.{table_instance}
 use Rattle.rw_column.specs.Threads.{Threaded, nothing, places_from}
 use Rattle.rw_columns.specs.Columned.{Columned, no_column, column_at, instance_of_columns, next_of, IsOverEnds, AreColumns}
 use Rattle.rw_columns.specs.Kept.{Keeps}
 use Rattle.rw_columns.specs.inner.Filled.{IsFilled, IsFilledColumn, AreFilledFrom}
-use Rattle.rw_columns.proofs.Ascending.{places_ascend}
-use Rattle.rw_columns.proofs.Columned.{places_are, places_have, there_at}
+use Rattle.rw_columns.proofs.Columned.{places_are, places_ascend, places_have, there_at}
 use Rattle.rw_columns.proofs.Filled.{names_up}
 use Rattle.rw_columns.proofs.Lists.{name_in_bound, names_known, images_below}
 use Rattle.rw_columns.proofs.Same.{same_instance}
+use Rattle.rw_columns.proofs.Walked.{same_order}
 
 -- a number is among the names, or it is none of them
-among_or_not : (names : List ℕ) (x : ℕ) → Contains names x ⊎ (Contains names x → ⊥)
+pub among_or_not : (names : List ℕ) (x : ℕ) → Contains names x ⊎ (Contains names x → ⊥)
 among_or_not names x =
     elim (cases_Bool (list_any (λ name. name == x) names)) [
       | inl found ↦ inl (contains_found names x found)
@@ -104,8 +100,7 @@ module _ (columns : Columned) (rows : RowLists) (from : AreFilledFrom columns.si
             let names = list_at rows.names object in
             let next = slice_index rows.next object in
             let named = names_known columns.signature rows object from.no_fault known in
-            one_order nat_cmp nat_cmp_total (places_from values 0 0) names
-            (sorted_from_ascends (places_from values 0 0) (places_ascend values 0 0)) (sorted_from_ascends names (names_up next names named))
+            same_order (places_from values 0 0) names (places_ascend values 0 0) (names_up next names named)
             (λ x there.
             let at = places_are values 0 x there in
             names_at object x known (subst (λ (n : ℕ). x < n) (next_kept object) at.0) at.1)

@@ -1,0 +1,4 @@
+pub mod Differing
+pub mod Gathered
+pub mod Live
+pub mod Looked

@@ -1,0 +1,4 @@
+pub mod After
+pub mod ContextLists
+pub mod Deltas
+pub mod inner

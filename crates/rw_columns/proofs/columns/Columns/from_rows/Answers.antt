@@ -1,5 +1,6 @@
 -- The columns are put together.
 use Rattle.std.proofs.Common.{◌∙◌, length, map, refl, ap}
+use Rattle.std.specs.Vec.{vec_capacity}
 use Rattle.rw_schema.specs.Presentation.{ends_of_arrow, ends_of_attribute}
 use Rattle.rw_columns.specs.Columned.{Columned}
 use Rattle.rw_columns.proofs.FromRows.{ArePartsOf, columns_from, kept_from}
@@ -17,6 +18,7 @@ columns_of c = record {
   names = c.in_ok-names.names.items;
   arrows = c.in_ok-arrows.arrows.items;
   cells = map (λ list. list.items) c.in_ok-cells.cells.items;
+  cell_rooms = map (λ list. vec_capacity list) c.in_ok-cells.cells.items;
 }
 
 -- their parts are those of the lists

@@ -12,5 +12,5 @@ returns c =
     let columns = c.args.self.now in
     let sound = c.row.ensures.sound in
     let within = target_place columns sound c.args.arrow.0 c.requires.arrow c.args.name c.requires.name in
-    c.new.ensures ∙ ap (λ (column : Threaded). places_from column.values c.args.name 0) c.row.ensures.column
+    c.of.ensures ∙ c.new.ensures ∙ ap (λ (column : Threaded). places_from column.values c.args.name 0) c.row.ensures.column
     ∙ preimage_places columns sound c.args.arrow.0 c.requires.arrow c.args.name within

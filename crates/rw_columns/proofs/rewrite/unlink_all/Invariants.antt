@@ -1,0 +1,8 @@
+-- The names so far are done.
+use Rattle.std.proofs.Common.{◌<◌}
+use Rattle.rw_column.specs.Threads.{nothing}
+use Rattle.rw_columns.specs.inner.Written.{IsColumnWritten}
+use Rattle.rw_columns.proofs.rewrite.unlink_all.Given as goal
+
+abbrev pub invariant-loop-name : goal.invariant-loop-name
+invariant-loop-name l = IsColumnWritten (λ k. k < l.name-index) l.names (λ k. nothing) l.initial.column l.column

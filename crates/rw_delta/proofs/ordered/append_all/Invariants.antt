@@ -1,0 +1,6 @@
+-- The names so far.
+use Rattle.std.proofs.Common.{◌≡◌, ◌++◌, take}
+use Rattle.rw_delta.proofs.ordered.append_all.Given as goal
+
+abbrev pub invariant-loop-name : goal.invariant-loop-name
+invariant-loop-name l = l.names.items ≡ l.initial.names.items ++ take l.name-index l.more
