@@ -14,9 +14,10 @@ use Rattle.rw_rule.specs.Images.{parts_of}
 use Rattle.rw_rule.specs.RuleLists.{RuleLists}
 use Rattle.rw_rule.specs.declared.refusal.Refusal.{Refusal}
 use Rattle.rw_rule.specs.declared.refusal.Refusal.TheVariants.{Dangling, NoValue, TooLarge}
-use Rattle.rw_plain.specs.Obstructions.{most_names, dangles, dangling_at, dangling, too_large, obstruction}
-use Rattle.rw_plain.specs.PlainStep.{next_after}
-use Rattle.rw_plain.specs.SetValues.{lacks_value, no_value, no_value_on}
+use Rattle.rw_redex.specs.NewParts.{next_after}
+use Rattle.rw_redex.specs.Obstructions.{most_names, dangles, dangling_at, dangling, too_large}
+use Rattle.rw_redex.specs.SetValues.{lacks_value, no_value, no_value_on}
+use Rattle.rw_plain.specs.Obstructions.{obstruction}
 use Rattle.rw_print.specs.Lines.{IsKnown}
 use Rattle.rw_app.specs.Runs.{AreRefused}
 

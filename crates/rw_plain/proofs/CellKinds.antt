@@ -17,20 +17,9 @@ use Rattle.rw_terms.specs.declared.code.OpCode.{OpCode}
 use Rattle.rw_rule.specs.RuleLists.{RuleLists}
 use Rattle.rw_rule.specs.declared.set.SetCell.{SetCell}
 use Rattle.rw_plain.specs.PlainStep.{cell_after, cell_from, name_of_right, sets_cell}
-use Rattle.rw_plain.proofs.RuleKnown.{IsKnown}
-use Rattle.rw_plain.proofs.SetKinds.{IsMet, set_known}
-
--- what is found first is in the list, and passes the test
-found_known : {X : Type 0} (test : X → Bool) (xs : List X) (x : X) → find test xs ≡ Some x → (place : ℕ) × (slice_get xs place ≡ Some x) × (test x ≡ true)
-found_known test [] x found = cc
-found_known test (y ∷ xs) x found =
-    elim (cases_Bool (test y)) [
-      | inl passes ↦
-          let here : Some y ≡ Some x = rw passes at found in
-          let same : y ≡ x = cc in
-          (zero, here, rw (← same) passes)
-      | inr fails ↦ let later = found_known test xs x (rw fails at found) in (suc later.0, later.1, later.2)
-    ]
+use Rattle.rw_redex.proofs.Right.{found_known}
+use Rattle.rw_redex.proofs.RuleKnown.{IsKnown}
+use Rattle.rw_redex.proofs.SetKinds.{IsMet, set_known}
 
 -- an atom that a cell held is of its attribute's kind
 held_kind : (C : Signature) (rows : RowLists) (attr : ℕ) (ends : AttrEnds) (name : ℕ) (atom : Atom) → table_fault C rows ≡ None
@@ -48,21 +37,21 @@ held_kind C rows attr ends name atom sound there holds =
 
 -- an atom that a set puts on a cell of an attribute is of its kind
 set_kind : (C : Signature) (codes : List OpCode) (rule : RuleLists) (tuple : List ℕ) (rows : RowLists) (attr : ℕ) (ends : AttrEnds) (name : ℕ) (atom : Atom) (found : Option SetCell)
-    → IsKnown C (length codes) rule → IsMet C rule tuple rows → slice_get C.attributes attr ≡ Some ends
+    → IsKnown C (length codes) rule → IsMet C rule tuple (instance_of C rows) → table_fault C rows ≡ None → slice_get C.attributes attr ≡ Some ends
     → find (sets_cell rule tuple rows.next attr name) rule.sets ≡ found
     → cell_from codes rule tuple (instance_of C rows) ((instance_of C rows).cell attr name) found ≡ Some atom → kind_of atom ≡ ends.kind
-set_kind C codes rule tuple rows attr ends name atom None known met there found holds = held_kind C rows attr ends name atom met.sound there holds
-set_kind C codes rule tuple rows attr ends name atom (Some set) known met there found holds =
+set_kind C codes rule tuple rows attr ends name atom None known met sound there found holds = held_kind C rows attr ends name atom sound there holds
+set_kind C codes rule tuple rows attr ends name atom (Some set) known met sound there found holds =
     let at = found_known (sets_cell rule tuple rows.next attr name) rule.sets set found in
     let on : set.attr.0 ≡ attr = eqb-true set.attr.0 attr (and_parts (set.attr.0 == attr) (name_of_right rule tuple rows.next (holder rule.right attr) set.part == name) at.2).0 in
-    let own = set_known C codes rule tuple rows known met at.0 set at.1 in
+    let own = set_known C codes rule tuple (instance_of C rows) known met at.0 set at.1 in
     let same : Some own.ends ≡ Some ends = sym own.there ∙ ap (slice_get C.attributes) on ∙ there in
     let equal : own.ends ≡ ends = cc in
     own.term.value atom holds ∙ ap (λ (ends : AttrEnds). ends.kind) equal
 
 -- an atom that a cell of an attribute has after a step is of its kind
 pub cell_kind : (C : Signature) (codes : List OpCode) (rule : RuleLists) (tuple : List ℕ) (rows : RowLists) (attr : ℕ) (ends : AttrEnds) (name : ℕ) (atom : Atom)
-    → IsKnown C (length codes) rule → IsMet C rule tuple rows → slice_get C.attributes attr ≡ Some ends
+    → IsKnown C (length codes) rule → IsMet C rule tuple (instance_of C rows) → table_fault C rows ≡ None → slice_get C.attributes attr ≡ Some ends
     → cell_after codes rule tuple (instance_of C rows) rows.next attr name ≡ Some atom → kind_of atom ≡ ends.kind
-cell_kind C codes rule tuple rows attr ends name atom known met there holds =
-    set_kind C codes rule tuple rows attr ends name atom (find (sets_cell rule tuple rows.next attr name) rule.sets) known met there refl holds
+cell_kind C codes rule tuple rows attr ends name atom known met sound there holds =
+    set_kind C codes rule tuple rows attr ends name atom (find (sets_cell rule tuple rows.next attr name) rule.sets) known met sound there refl holds

@@ -16,16 +16,18 @@ use Rattle.rw_pattern.specs.PatternLists.{size_of, instance_of_pattern, map_of_t
 use Rattle.rw_pattern.proofs.Maps.{images_long}
 use Rattle.rw_pattern.proofs.PartNames.{has_part}
 use Rattle.rw_rule.specs.PlainRules.{is_plain}
-use Rattle.rw_plain.specs.RuleParts.{IsSpanOver}
+use Rattle.rw_redex.specs.RuleParts.{IsSpanOver}
 use Rattle.rw_rule.specs.RuleLists.{RuleLists}
 use Rattle.rw_rule.specs.Images.{is_image}
-use Rattle.rw_plain.specs.PlainStep.{new_parts, new_before, name_from, name_of_right, part_of_name, value_after}
+use Rattle.rw_redex.specs.NewParts.{new_parts, new_before}
+use Rattle.rw_plain.specs.PlainStep.{name_from, name_of_right, part_of_name, value_after}
 use Rattle.rw_plain.proofs.ArrowValues.{value_at_earlier, value_at_new}
 use Rattle.rw_plain.proofs.NamesAfter.{name_below}
 use Rattle.rw_plain.proofs.NewParts.{new_part_at}
-use Rattle.rw_plain.proofs.Parts.{image_from, value_part}
+use Rattle.rw_redex.proofs.Parts.{image_from, value_part}
 use Rattle.rw_plain.proofs.PlainMatch.{IsPlainStep}
-use Rattle.rw_plain.proofs.RuleMaps.{keep_is, keep_known, left_natural, right_natural, right_shape, right_distinct}
+use Rattle.rw_redex.proofs.RuleMaps.{keep_is, keep_known, left_natural, right_natural, right_shape}
+use Rattle.rw_plain.proofs.PlainRules.{right_distinct}
 
 -- nothing is there where a test for something fails
 nothing_there : {A : Type 0} (answer : Option A) → is_some answer ≡ false → answer ≡ None

@@ -13,16 +13,17 @@ use Rattle.rw_pattern.proofs.PartNames.{has_part}
 use Rattle.rw_pattern.proofs.PatternInstance.{pattern_instance}
 use Rattle.rw_terms.specs.declared.code.OpCode.{OpCode}
 use Rattle.rw_rule.specs.RuleLists.{RuleLists}
-use Rattle.rw_plain.specs.PlainStep.{new_parts, name_of_right, part_of_name, value_after, instance_after}
+use Rattle.rw_redex.specs.NewParts.{new_parts}
+use Rattle.rw_plain.specs.PlainStep.{name_of_right, part_of_name, value_after, instance_after}
 use Rattle.rw_plain.proofs.ArrowValues.{value_at_earlier}
-use Rattle.rw_plain.proofs.Ascents.{range_bounds}
+use Rattle.rw_spec.proofs.Ranges.{range_bounds}
 use Rattle.rw_plain.proofs.Comatch.{comatch_commutes, name_of_new}
 use Rattle.rw_plain.proofs.NamesAfter.{name_below, kept_names, new_names, kept_known}
 use Rattle.rw_plain.proofs.NewNames.{new_part_there}
 use Rattle.rw_plain.proofs.NewParts.{new_part_known, new_before_at}
-use Rattle.rw_plain.proofs.Parts.{value_part}
+use Rattle.rw_redex.proofs.Parts.{value_part}
 use Rattle.rw_plain.proofs.PlainMatch.{IsPlainStep}
-use Rattle.rw_plain.proofs.RuleMaps.{right_is}
+use Rattle.rw_redex.proofs.RuleMaps.{right_is}
 
 -- a path from the name of a part leads to the name of where it leads in the right pattern
 follow_right : (C : Signature) (codes : List OpCode) (rule : RuleLists) (tuple : List ℕ) (rows : RowLists) → IsPlainStep C rule tuple rows

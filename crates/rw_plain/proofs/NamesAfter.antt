@@ -17,8 +17,11 @@ use Rattle.rw_table.specs.declared.fault.TableFault.TheVariants.{Names}
 use Rattle.rw_table.proofs.Checked.{AreChecked, checked_known, shape_known}
 use Rattle.rw_spec.proofs.Sequences.{contains_filter, contained_in_filter, list_all_contained, list_all_from_contained}
 use Rattle.rw_rule.specs.RuleLists.{RuleLists}
-use Rattle.rw_plain.specs.PlainStep.{is_removed, new_parts, next_after, names_after}
-use Rattle.rw_plain.proofs.Ascents.{ascends_filter, ascends_append, ascends_range, range_bounds}
+use Rattle.rw_redex.specs.Matched.{is_removed}
+use Rattle.rw_redex.specs.NewParts.{new_parts, next_after}
+use Rattle.rw_plain.specs.PlainStep.{names_after}
+use Rattle.rw_spec.proofs.Ascending.{ascends_filter, ascends_append}
+use Rattle.rw_spec.proofs.Ranges.{range_ascends, range_bounds}
 
 -- the names of an object ascend below its next name
 names_known : (C : Signature) (rows : RowLists) (object : ℕ) → table_fault C rows ≡ None → object < C.objects
@@ -79,7 +82,7 @@ names_ascend_after C rule tuple rows object none known =
     let kept_below : (name : ℕ) → Contains kept name → name < next =
     λ name there. name_below C rows object name none known (kept_known rule tuple X object name there).0 in
     let ascending : ascends (kept ++ made) ≡ true =
-    ascends_append kept made (ascends_filter (λ name. not (is_removed rule tuple object name)) names up) (ascends_range next count)
+    ascends_append kept made (ascends_filter (λ name. not (is_removed rule tuple object name)) names up) (range_ascends next count)
     (λ x y early late. omega (arith, kept_below x early, (range_bounds next count y late).0)) in
     let below : list_all (λ name. nat_lt name (next + count)) (kept ++ made) ≡ true =
     list_all_from_contained (λ name. nat_lt name (next + count)) (kept ++ made) (λ name there. elim (Contains-append_cases kept made name there) [

@@ -15,17 +15,18 @@ use Rattle.rw_pattern.specs.MapFaults.{image_of}
 use Rattle.rw_pattern.specs.PatternLists.{size_of, instance_of_pattern, map_of_tuple}
 use Rattle.rw_pattern.proofs.Maps.{images_long}
 use Rattle.rw_pattern.proofs.PartNames.{has_part}
-use Rattle.rw_plain.specs.RuleParts.{IsSpanOver}
+use Rattle.rw_redex.specs.RuleParts.{IsSpanOver}
 use Rattle.rw_rule.specs.RuleLists.{RuleLists}
 use Rattle.rw_rule.specs.Images.{is_image}
-use Rattle.rw_plain.specs.PlainStep.{new_parts, new_before, names_after, name_from, name_of_right, part_of_name, value_after}
+use Rattle.rw_redex.specs.NewParts.{new_parts, new_before}
+use Rattle.rw_plain.specs.PlainStep.{names_after, name_from, name_of_right, part_of_name, value_after}
 use Rattle.rw_plain.proofs.ArrowValues.{value_at_earlier, value_at_new}
-use Rattle.rw_plain.proofs.Ascents.{range_contains, range_bounds}
+use Rattle.rw_spec.proofs.Ranges.{range_contains, range_bounds}
 use Rattle.rw_plain.proofs.NamesAfter.{name_below, kept_names, new_names, kept_there, kept_known}
 use Rattle.rw_plain.proofs.NewParts.{new_before_fewer, new_part_known}
-use Rattle.rw_plain.proofs.Parts.{value_part}
+use Rattle.rw_redex.proofs.Parts.{value_part}
 use Rattle.rw_plain.proofs.PlainMatch.{IsPlainMatch}
-use Rattle.rw_plain.proofs.RuleMaps.{keep_known, left_natural, right_shape, right_is}
+use Rattle.rw_redex.proofs.RuleMaps.{keep_known, left_natural, right_shape, right_is}
 use Rattle.rw_plain.proofs.Removed.{kept_stays, value_stays}
 
 -- the name of the image of a kept part, or of a new part, is a name after the step

@@ -11,9 +11,10 @@ use Rattle.rw_pattern.proofs.PartNames.{part_below}
 use Rattle.rw_spec.proofs.Sequences.{contained_in_filter}
 use Rattle.rw_rule.specs.RuleLists.{RuleLists}
 use Rattle.rw_rule.specs.Images.{is_image, parts_of}
-use Rattle.rw_plain.specs.PlainStep.{new_parts, new_before}
-use Rattle.rw_plain.proofs.Ascents.{ascends_filter, ascends_range}
-use Rattle.rw_plain.proofs.Ranges.{range_split}
+use Rattle.rw_redex.specs.NewParts.{new_parts, new_before}
+use Rattle.rw_spec.proofs.Ascending.{ascends_filter}
+use Rattle.rw_spec.proofs.Ranges.{range_ascends}
+use Rattle.rw_redex.proofs.Ranges.{range_split}
 
 -- the numbers of a range that pass a test stand before and behind one that does
 filter_around : (p : ℕ → Bool) (part later : ℕ) → p part ≡ true
@@ -80,5 +81,5 @@ new_before_at rule object place within =
     let part : ℕ = slice_index fresh place in
     let known = new_part_known rule object place within in
     let distinct : AreDistinct fresh =
-    ascends_distinct fresh (ascends_filter (λ part. not (is_image rule.r object part)) (parts_of rule.right object) (ascends_range 0 (size_of rule.right object))) in
+    ascends_distinct fresh (ascends_filter (λ part. not (is_image rule.r object part)) (parts_of rule.right object) (range_ascends 0 (size_of rule.right object))) in
     distinct (new_before rule object part) place (new_before_fewer rule object part known.0 known.1) within (new_part_at rule object part known.0 known.1)

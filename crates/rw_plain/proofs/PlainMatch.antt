@@ -11,10 +11,10 @@ use Rattle.rw_pattern.specs.PatternLists.{size_of, instance_of_pattern, map_of_t
 use Rattle.rw_pattern.proofs.PartNames.{has_part}
 use Rattle.rw_spec.proofs.Sequences.{all_in_at}
 use Rattle.rw_rule.specs.PlainRules.{is_single_or_monic, is_monic_where_many, is_plain}
-use Rattle.rw_plain.specs.RuleParts.{IsSpanOver}
+use Rattle.rw_redex.specs.RuleParts.{IsSpanOver}
 use Rattle.rw_rule.specs.RuleLists.{RuleLists}
-use Rattle.rw_plain.specs.Obstructions.{dangling}
-use Rattle.rw_plain.proofs.RuleMaps.{plain_known}
+use Rattle.rw_redex.specs.Obstructions.{dangling}
+use Rattle.rw_plain.proofs.PlainRules.{plain_known}
 
 -- an injective match of a rule, at which no arrow dangles
 pub record IsPlainMatch (C : Signature) (rule : RuleLists) (tuple : List ℕ) (X : Instance) : Type 0 where

@@ -10,16 +10,16 @@ use Rattle.rw_spec.specs.Instance.{Instance, Has}
 use Rattle.rw_pattern.specs.MapFaults.{image_of}
 use Rattle.rw_pattern.specs.PatternLists.{size_of, instance_of_pattern, map_of_tuple}
 use Rattle.rw_pattern.proofs.PartNames.{part_below, has_part}
-use Rattle.rw_plain.specs.RuleParts.{IsSpanOver}
+use Rattle.rw_redex.specs.RuleParts.{IsSpanOver}
 use Rattle.rw_rule.specs.RuleLists.{RuleLists}
 use Rattle.rw_rule.specs.declared.refusal.Refusal.{Refusal}
 use Rattle.rw_rule.specs.declared.refusal.Refusal.TheVariants.{Dangling}
 use Rattle.rw_rule.specs.Images.{is_image}
-use Rattle.rw_plain.specs.PlainStep.{is_matched, is_removed}
-use Rattle.rw_plain.specs.Obstructions.{dangles, dangling_at}
-use Rattle.rw_plain.proofs.Parts.{part_passes, some_passes, image_from, image_found, value_part}
+use Rattle.rw_redex.specs.Matched.{is_matched, is_removed}
+use Rattle.rw_redex.specs.Obstructions.{dangles, dangling_at}
+use Rattle.rw_redex.proofs.Parts.{part_passes, some_passes, image_from, image_found, value_part}
 use Rattle.rw_plain.proofs.PlainMatch.{IsPlainMatch}
-use Rattle.rw_plain.proofs.RuleMaps.{keep_is, keep_known, left_natural, left_shape}
+use Rattle.rw_redex.proofs.RuleMaps.{keep_is, keep_known, left_natural, left_shape}
 
 -- the name of a kept part is not removed
 pub kept_stays : (C : Signature) (rule : RuleLists) (tuple : List ℕ) (X : Instance) (object kept : ℕ) → IsSpanOver C rule → IsPlainMatch C rule tuple X

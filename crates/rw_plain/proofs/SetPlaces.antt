@@ -9,7 +9,7 @@ use Rattle.rw_pattern.proofs.Over.{holder_is}
 use Rattle.rw_rule.specs.RuleLists.{RuleLists}
 use Rattle.rw_rule.specs.Sets.{is_on_part}
 use Rattle.rw_rule.specs.declared.set.SetCell.{SetCell}
-use Rattle.rw_plain.specs.RuleParts.{IsSpanOver}
+use Rattle.rw_redex.specs.RuleParts.{IsSpanOver}
 
 -- the object of a set's attribute is the one that the right pattern has for it
 pub set_holder : (schema : Presentation) (rule : RuleLists) (set : SetCell) (attribute : AttrDef) → IsSpanOver (signature_of schema) rule

@@ -12,16 +12,18 @@ use Rattle.rw_terms.specs.declared.code.OpCode.{OpCode}
 use Rattle.rw_rule.specs.PlainRules.{is_plain}
 use Rattle.rw_rule.specs.RuleFaults.{IsRuleOver}
 use Rattle.rw_rule.specs.RuleLists.{RuleLists}
-use Rattle.rw_plain.specs.Obstructions.{dangling}
-use Rattle.rw_plain.specs.PlainStep.{next_after, instance_after, rows_after}
+use Rattle.rw_redex.specs.Obstructions.{dangling}
+use Rattle.rw_redex.specs.NewParts.{next_after}
+use Rattle.rw_plain.specs.PlainStep.{instance_after, rows_after}
 use Rattle.rw_plain.proofs.CellKinds.{cell_kind}
 use Rattle.rw_plain.proofs.Equations.{equations_after}
 use Rattle.rw_table.proofs.Listed.{listed_unfaulted}
+use Rattle.rw_table.proofs.TableInstance.{table_instance}
 use Rattle.rw_plain.proofs.NamesAfter.{kept_names, new_names, names_ascend_after}
 use Rattle.rw_plain.proofs.NewNames.{new_value_there, kept_value_there}
 use Rattle.rw_plain.proofs.PlainMatch.{IsPlainStep, is_plain_match}
-use Rattle.rw_plain.proofs.RuleKnown.{IsKnown, rule_known}
-use Rattle.rw_plain.proofs.SetKinds.{IsMet, match_of, met_by_match}
+use Rattle.rw_redex.proofs.RuleKnown.{IsKnown, rule_known}
+use Rattle.rw_redex.proofs.SetKinds.{IsMet, match_of, met_by_match}
 
 -- each arrow of the instance after the step is a function from the names of its source to those of its target
 values_after_there : (C : Signature) (codes : List OpCode) (rule : RuleLists) (tuple : List ℕ) (rows : RowLists) → IsPlainStep C rule tuple rows
@@ -37,10 +39,10 @@ values_after_there C codes rule tuple rows step a ends name there has =
 
 -- the instance after a step of a plain rule is one
 step_instance : (C : Signature) (codes : List OpCode) (rule : RuleLists) (tuple : List ℕ) (rows : RowLists) → IsPlainStep C rule tuple rows
-    → IsKnown C (length codes) rule → IsMet C rule tuple rows → IsInstance C (instance_after C codes rule tuple (instance_of C rows) rows.next)
+    → IsKnown C (length codes) rule → IsMet C rule tuple (instance_of C rows) → IsInstance C (instance_after C codes rule tuple (instance_of C rows) rows.next)
 step_instance C codes rule tuple rows step known met = record {
   values = values_after_there C codes rule tuple rows step;
-  atoms = λ c ends x atom there has holds. cell_kind C codes rule tuple rows c ends x atom known met there holds;
+  atoms = λ c ends x atom there has holds. cell_kind C codes rule tuple rows c ends x atom known met step.sound there holds;
   equations = equations_after C codes rule tuple rows step;
 }
 
@@ -63,4 +65,4 @@ step_is_sound C codes rule tuple rows category sound over plain matched safe =
     } in
     listed_unfaulted C (instance_after C codes rule tuple X rows.next) (next_after rule rows.next) category
     (λ object known. names_ascend_after C rule tuple rows object sound known)
-    (step_instance C codes rule tuple rows step known (met_by_match C rule tuple rows category sound over.parts.goal.left matched))
+    (step_instance C codes rule tuple rows step known (met_by_match C rule tuple (instance_of C rows) category (table_instance C rows sound) over.parts.goal.left matched))

@@ -9,8 +9,8 @@ use Rattle.rw_spec.proofs.Signatures.{source_is}
 use Rattle.rw_table.specs.TableFaults.{table_fault}
 use Rattle.rw_table.proofs.Checked.{checked_known, shape_known, names_apart}
 use Rattle.rw_rule.specs.RuleLists.{RuleLists}
-use Rattle.rw_plain.specs.Obstructions.{dangles}
-use Rattle.rw_plain.specs.PlainStep.{is_matched, is_removed}
+use Rattle.rw_redex.specs.Obstructions.{dangles}
+use Rattle.rw_redex.specs.Matched.{is_matched, is_removed}
 
 -- there is one next name for each object
 pub next_long : (C : Signature) (rows : RowLists) → table_fault C rows ≡ None → length rows.next ≡ C.objects

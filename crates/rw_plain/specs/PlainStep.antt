@@ -1,7 +1,7 @@
 -- The step of a plain double-pushout rule at a match, said part by part. L, K and R are the left, the kept and the right
 -- pattern, l and r the maps from K; X is the instance before, with one next name for each object; the match is a tuple.
 use Rattle.std.specs.Prelude.{◌==◌, ℕ, ◌+◌, ◌-◌, Bool, not, ◌&&◌, nat_lt, length, map, filter, find, List, ◌++◌, Option, Some, None, slice_index, position, if◌then◌else◌}
-use Rattle.std.specs.List.{list_any, range_with_len}
+use Rattle.std.specs.List.{range_with_len}
 use Rattle.rw_schema.specs.declared.atom.Atom.{Atom}
 use Rattle.rw_schema.specs.RowLists.{RowLists, list_at}
 use Rattle.rw_schema.specs.Signature.{Signature, source_of}
@@ -10,32 +10,11 @@ use Rattle.rw_spec.specs.Instance.{Instance, instance_of, lists_of}
 use Rattle.rw_pattern.specs.MapFaults.{image_of}
 use Rattle.rw_pattern.specs.PatternLists.{holder, map_of_tuple}
 use Rattle.rw_terms.specs.declared.code.OpCode.{OpCode}
-use Rattle.rw_rule.specs.Images.{is_image, parts_of}
 use Rattle.rw_rule.specs.RuleLists.{RuleLists}
 use Rattle.rw_rule.specs.declared.set.SetCell.{SetCell}
-use Rattle.rw_plain.specs.SetValues.{set_value}
-
--- the match gives the name to a part of L
-abbrev pub is_matched : RuleLists → List ℕ → ℕ → ℕ → Bool
-is_matched rule tuple object name =
-    list_any (λ part. map_of_tuple rule.goal.left tuple object part == name) (parts_of rule.goal.left object)
-
--- the match gives the name to a part of L outside the image of l
-abbrev pub is_removed : RuleLists → List ℕ → ℕ → ℕ → Bool
-is_removed rule tuple object name =
-    list_any (λ part. not (is_image rule.l object part) && map_of_tuple rule.goal.left tuple object part == name) (parts_of rule.goal.left object)
-
--- the new parts: those of R outside the image of r
-abbrev pub new_parts : RuleLists → ℕ → List ℕ
-new_parts rule object = filter (λ part. not (is_image rule.r object part)) (parts_of rule.right object)
-
--- how many new parts there are before a part
-abbrev pub new_before : RuleLists → ℕ → ℕ → ℕ
-new_before rule object part = length (filter (λ other. not (is_image rule.r object other)) (range_with_len 0 part))
-
--- the next name after the step: each new part has taken one
-abbrev pub next_after : RuleLists → List ℕ → ℕ → ℕ
-next_after rule next object = slice_index next object + length (new_parts rule object)
+use Rattle.rw_redex.specs.Matched.{is_removed}
+use Rattle.rw_redex.specs.NewParts.{new_before, new_parts, next_after}
+use Rattle.rw_redex.specs.SetValues.{set_value}
 
 -- the names after the step: those that are not removed, and then the next names, one for each new part
 abbrev pub names_after : RuleLists → List ℕ → Instance → List ℕ → ℕ → List ℕ

@@ -7,10 +7,11 @@ ghost use Rattle.rw_schema.specs.First.{map_in};
 ghost use Rattle.rw_schema.specs.Presentation.{signature_of, ends_of_attribute};
 ghost use Rattle.rw_spec.specs.Tabled.{IsOver, instance_of_table};
 ghost use Rattle.rw_terms.specs.declared.code.OpCode as code;
-ghost use Rattle.rw_plain.specs.Obstructions.{too_large};
+ghost use Rattle.rw_redex.specs.Obstructions.{too_large};
 ghost use Rattle.rw_plain.specs.PlainStep.{cell_after as cell_after_step, names_after as names_after_step, sets_cell};
-ghost use Rattle.rw_plain.specs.RuleParts.{IsSpanOver};
-ghost use Rattle.rw_plain.specs.SetLists.{set_names as names_of_sets, set_values as values_of_sets};
+ghost use Rattle.rw_redex.specs.RuleParts.{IsSpanOver};
+ghost use Rattle.rw_plain.specs.SetLists.{set_names as names_of_sets};
+ghost use Rattle.rw_redex.specs.SetValues.{set_values as values_of_sets};
 
 use crate::values::name_of_right;
 use rw_pattern::Tuple;

@@ -3,12 +3,12 @@
 ghost use Rattle.std.specs.Prelude.{◌≡◌, ◌&&◌, not, length, sum};
 ghost use Rattle.rw_schema.specs.Presentation.{signature_of, ends_of_arrow};
 ghost use Rattle.rw_spec.specs.Tabled.{IsOver, instance_of_table};
-ghost use Rattle.rw_plain.specs.Obstructions.{dangling, dangling_at as dangling_of};
-ghost use Rattle.rw_plain.specs.PlainStep.{is_matched as is_matched_name, is_removed as is_removed_name};
-ghost use Rattle.rw_plain.specs.RuleParts.{IsSpanOver, HasObject, HasArrow};
+ghost use Rattle.rw_redex.specs.Obstructions.{dangling, dangling_at as dangling_of};
+ghost use Rattle.rw_redex.specs.Matched.{is_matched as is_matched_name, is_removed as is_removed_name};
+ghost use Rattle.rw_redex.specs.RuleParts.{IsSpanOver, HasObject, HasArrow};
 
-use crate::matched::{is_matched, is_removed};
 use rw_pattern::Tuple;
+use rw_redex::{is_matched, is_removed};
 use rw_rule::{Refusal, Rule};
 use rw_schema::{ArrowDef, ArrowId, Schema};
 use rw_table::Table;

@@ -3,11 +3,9 @@
 
 mod cells;
 mod dangling;
-mod growth;
-mod matched;
 mod names;
+mod room;
 mod rows;
-mod set_values;
 mod step;
 mod valuation;
 mod values;

@@ -3,13 +3,14 @@
 ghost use Rattle.std.specs.Prelude.{◌≡◌, ◌<◌, ◌≤◌, IfOk, not, filter, length, sum};
 ghost use Rattle.rw_schema.specs.RowLists.{list_at};
 ghost use Rattle.rw_spec.specs.Tabled.{instance_of_table};
-ghost use Rattle.rw_plain.specs.Obstructions.{most_names};
-ghost use Rattle.rw_plain.specs.PlainStep.{is_removed as is_removed_name, names_after as names_after_step, next_after as next_after_step};
-ghost use Rattle.rw_plain.specs.RuleParts.{HasObject};
+ghost use Rattle.rw_redex.specs.Obstructions.{most_names};
+ghost use Rattle.rw_redex.specs.Matched.{is_removed as is_removed_name};
+ghost use Rattle.rw_plain.specs.PlainStep.{names_after as names_after_step};
+ghost use Rattle.rw_redex.specs.NewParts.{next_after as next_after_step};
+ghost use Rattle.rw_redex.specs.RuleParts.{HasObject};
 
-use crate::growth::next_after;
-use crate::matched::is_removed;
 use rw_pattern::Tuple;
+use rw_redex::{is_removed, next_after};
 use rw_rule::Rule;
 use rw_schema::{ObjectId, OutOfMemory, Rows};
 use rw_table::Table;
@@ -31,7 +32,7 @@ pub(crate) fn names_after(
 {
     let rows = table.rows();
     let mut names = names_kept(alloc, rule, rows, tuple, object)?;
-    for name in rows.next(object)..next_after(rule, rows, object) {
+    for name in rows.next(object)..next_after(rule, object, rows.next(object)) {
         names.push(name)?;
     }
     Ok(names)

@@ -8,16 +8,17 @@ ghost use Rattle.rw_schema.specs.Signature.{IsCategory};
 ghost use Rattle.rw_table.specs.TableFaults.{table_fault};
 ghost use Rattle.rw_spec.specs.Tabled.{IsOver, instance_of_table};
 ghost use Rattle.rw_terms.specs.declared.code.OpCode as code;
-ghost use Rattle.rw_plain.specs.Obstructions.{too_large};
-ghost use Rattle.rw_plain.specs.PlainStep.{names_after as names_after_step, next_after as next_after_step, value_after as value_after_step, rows_after as rows_after_step};
-ghost use Rattle.rw_plain.specs.RuleParts.{IsSpanOver, HasArrow};
-ghost use Rattle.rw_plain.specs.SetLists.{set_values};
+ghost use Rattle.rw_redex.specs.Obstructions.{too_large};
+ghost use Rattle.rw_plain.specs.PlainStep.{names_after as names_after_step, value_after as value_after_step, rows_after as rows_after_step};
+ghost use Rattle.rw_redex.specs.NewParts.{next_after as next_after_step};
+ghost use Rattle.rw_redex.specs.RuleParts.{IsSpanOver, HasArrow};
+ghost use Rattle.rw_redex.specs.SetValues.{set_values};
 
 use crate::cells::all_cells_after;
-use crate::growth::{new_parts, next_after};
 use crate::names::names_after;
 use crate::values::value_after;
 use rw_pattern::Tuple;
+use rw_redex::{new_parts, next_after};
 use rw_rule::Rule;
 use rw_schema::{ArrowDef, ArrowId, Atom, ObjectId, OutOfMemory, Rows, Schema};
 use rw_table::Table;
@@ -86,7 +87,8 @@ fn all_next_after(
 {
     let mut next = Vec::new(alloc);
     for number in 0..schema.objects() {
-        next.push(next_after(rule, rows, ObjectId(number as u16)))?;
+        let object = ObjectId(number as u16);
+        next.push(next_after(rule, object, rows.next(object)))?;
     }
     Ok(next)
 }

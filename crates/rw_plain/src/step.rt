@@ -12,10 +12,11 @@ ghost use Rattle.rw_rule.specs.PlainRules.{is_plain};
 
 use crate::Verdict;
 use crate::dangling::first_dangling;
-use crate::growth::first_too_large;
+use crate::room::first_without_room;
 use crate::rows::rows_after;
-use crate::set_values::{first_without_value, set_values};
+use crate::valuation::values_at;
 use rw_pattern::Tuple;
+use rw_redex::first_without_value;
 use rw_rule::Rule;
 use rw_schema::{OutOfMemory, Schema};
 use rw_table::Table;
@@ -48,12 +49,12 @@ pub fn try_match(
     if let Some(refusal) = first_dangling(schema, rule, table, tuple) {
         return Ok(Verdict::Refused(refusal));
     }
-    let values = set_values(alloc, rule, table, tuple, ops)?;
+    let values = values_at(alloc, rule, table, tuple, ops)?;
     let values = values.as_slice();
     if let Some(refusal) = first_without_value(schema, rule, values) {
         return Ok(Verdict::Refused(refusal));
     }
-    if let Some(refusal) = first_too_large(schema, rule, before) {
+    if let Some(refusal) = first_without_room(alloc, schema, rule, before)? {
         return Ok(Verdict::Refused(refusal));
     }
     let rows = rows_after(alloc, schema, rule, table, tuple, values)?;

@@ -1,22 +1,44 @@
-//! The values of a rule's variables at a match.
+//! The values of a rule's variables and of its sets at a match.
 
-ghost use Rattle.std.specs.Prelude.{◌≡◌, ◌<◌, All, IfOk, IfSome, find, length, pos, sum, unwrap_or};
+ghost use Rattle.std.specs.Prelude.{◌≡◌, All, IfOk, length, pos, sum, true, unwrap_or};
 ghost use Rattle.std.specs.Option.{option_map};
 ghost use Rattle.rw_schema.specs.declared.atom.Atom.TheVariants.{Int};
 ghost use Rattle.rw_spec.specs.Tabled.{instance_of_table};
-ghost use Rattle.rw_pattern.specs.Matches.{value_of as value_at, wants};
-ghost use Rattle.rw_plain.specs.RuleParts.{IsOnCell};
-ghost use Rattle.rw_plain.specs.SetValues.{valuation};
+ghost use Rattle.rw_pattern.specs.Matches.{value_of as value_at};
+ghost use Rattle.rw_redex.specs.RuleParts.{IsOnCell};
+ghost use Rattle.rw_redex.specs.SetValues.{set_values as values_of_sets, valuation};
+ghost use Rattle.rw_terms.specs.OpEntries.{entries};
+ghost use Rattle.rw_terms.specs.OpTables.{codes_of};
+ghost use Rattle.rw_terms.specs.Terms.{is_evaluable};
 
-use rw_pattern::{Pattern, PatternCell, Tuple, Want};
+use rw_pattern::{Pattern, Tuple};
+use rw_redex::{first_entry, set_values};
 use rw_rule::Rule;
 use rw_schema::{Atom, OutOfMemory};
 use rw_table::Table;
-use rw_terms::Valuation;
+use rw_terms::{OpTable, Valuation};
 use std::alloc::Global;
 
+/// The values of the sets at the match, in the order of the sets.
+pub(crate) fn values_at(
+    alloc: Global,
+    rule: &Rule,
+    table: &Table,
+    tuple: &Tuple,
+    ops: &OpTable,
+) -> Result<Vec<Option<Atom>>, OutOfMemory>
+    requires cells { All (IsOnCell rule.now.goal.left) rule.now.goal.left.cells }
+    requires attributes { length rule.now.goal.left.holders ≡ length table.now.signature.attributes }
+    requires tuple { length tuple.now ≡ sum rule.now.goal.left.sizes }
+    requires evaluable { All (λ set. is_evaluable (codes_of (entries ops.now)) (valuation rule.now tuple.now (instance_of_table table.now)) set.term ≡ true) rule.now.sets }
+    ensures { IfOk result (λ values. values.items ≡ values_of_sets (codes_of (entries ops.now)) rule.now tuple.now (instance_of_table table.now)) }
+{
+    let valuation = valuation_of(alloc, rule, table, tuple)?;
+    set_values(alloc, rule, &valuation, ops)
+}
+
 /// The match's values of the variables, in memory of their own; 0 stands for one that is on no cell of the left pattern.
-pub(crate) fn valuation_of(
+fn valuation_of(
     alloc: Global,
     rule: &Rule,
     table: &Table,
@@ -61,27 +83,6 @@ fn atom_of<'a>(left: &Pattern, table: &'a Table, tuple: &Tuple, variable: usize)
     requires tuple { length tuple.now ≡ sum left.now.sizes }
     ensures { option_map (λ atom. atom.now) result ≡ value_at left.now (instance_of_table table.now) tuple.now variable }
 {
-    let entry = first_of(left, variable)?;
+    let entry = first_entry(left, variable)?;
     table.atom(entry.attr, tuple.names()[left.cell_place(entry)])
-}
-
-/// The first entry of a variable.
-fn first_of(left: &Pattern, variable: usize) -> Option<&PatternCell>
-    requires { All (IsOnCell left.now) left.now.cells }
-    ensures first { option_map (λ entry. entry.now) result ≡ find (λ entry. wants variable entry.want) left.now.cells }
-    ensures there { IfSome result (λ entry. IsOnCell left.now entry.now) }
-{
-    left.cells()
-        .iter()
-        .find(|entry| is_variable(variable, &entry.want))
-}
-
-/// Whether the entry wants the value of the variable.
-fn is_variable(variable: usize, want: &Want) -> bool
-    ensures { result ≡ wants variable want.now }
-{
-    match want {
-        Want::Const(_) => false,
-        Want::Var(other) => variable == *other as usize,
-    }
 }

@@ -5,13 +5,13 @@ ghost use Rattle.rw_schema.specs.Presentation.{ends_of_arrow};
 ghost use Rattle.rw_schema.specs.RowLists.{list_at};
 ghost use Rattle.rw_pattern.specs.PatternLists.{size_of};
 ghost use Rattle.rw_spec.specs.Tabled.{instance_of_table};
-ghost use Rattle.rw_plain.specs.Obstructions.{too_large};
-ghost use Rattle.rw_plain.specs.PlainStep.{new_parts as new_parts_of, next_after as next_after_step, name_of_right as name_of_right_part, value_after as value_after_step};
-ghost use Rattle.rw_plain.specs.RuleParts.{HasObject, HasArrow};
+ghost use Rattle.rw_redex.specs.Obstructions.{too_large};
+ghost use Rattle.rw_redex.specs.NewParts.{new_parts as new_parts_of, next_after as next_after_step};
+ghost use Rattle.rw_plain.specs.PlainStep.{name_of_right as name_of_right_part, value_after as value_after_step};
+ghost use Rattle.rw_redex.specs.RuleParts.{HasObject, HasArrow};
 
-use crate::growth::new_before;
-use crate::matched::name_of_left;
 use rw_pattern::Tuple;
+use rw_redex::{name_of_left, new_before};
 use rw_rule::Rule;
 use rw_schema::{ArrowDef, ArrowId, ObjectId, Rows};
 use rw_table::Table;

@@ -13,9 +13,9 @@ use Rattle.rw_terms.specs.declared.code.OpCode.{OpCode}
 use Rattle.rw_rule.specs.RuleLists.{RuleLists}
 use Rattle.rw_plain.specs.PlainStep.{cell_after, names_after}
 use Rattle.rw_plain.specs.SetLists.{set_names}
-use Rattle.rw_plain.proofs.Attributes.{attribute_at}
-use Rattle.rw_plain.proofs.Mapped.{mapped_in_more}
-use Rattle.rw_plain.proofs.Ranges.{mapped_at, mapped_long}
+use Rattle.rw_redex.proofs.Attributes.{attribute_at}
+use Rattle.rw_redex.proofs.Mapped.{mapped_in_more}
+use Rattle.rw_redex.proofs.Ranges.{mapped_at, mapped_long}
 use Rattle.rw_plain.proofs.cells.all_cells_after.Goals as goal
 
 -- the cells of an attribute after the step

@@ -6,7 +6,7 @@ use Rattle.rw_spec.specs.Instance.{Instance}
 use Rattle.rw_spec.specs.Tabled.{instance_of_table}
 use Rattle.rw_terms.specs.declared.code.OpCode.{OpCode}
 use Rattle.rw_plain.specs.PlainStep.{cell_after, names_after}
-use Rattle.rw_plain.specs.SetLists.{set_values}
+use Rattle.rw_redex.specs.SetValues.{set_values}
 use Rattle.rw_plain.proofs.cells.all_cells_after.Given as goal
 
 abbrev pub invariant-loop-number : goal.invariant-loop-number

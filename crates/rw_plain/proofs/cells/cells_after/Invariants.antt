@@ -3,7 +3,8 @@ use Rattle.std.proofs.Common.{◌≡◌, ℕ, List, map, take}
 use Rattle.rw_spec.specs.Tabled.{instance_of_table}
 use Rattle.rw_terms.specs.declared.code.OpCode.{OpCode}
 use Rattle.rw_plain.specs.PlainStep.{cell_after}
-use Rattle.rw_plain.specs.SetLists.{set_names, set_values}
+use Rattle.rw_plain.specs.SetLists.{set_names}
+use Rattle.rw_redex.specs.SetValues.{set_values}
 use Rattle.rw_plain.proofs.cells.cells_after.Given as goal
 
 abbrev pub invariant-loop-name : goal.invariant-loop-name

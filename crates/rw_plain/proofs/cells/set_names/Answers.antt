@@ -5,8 +5,8 @@ use Rattle.rw_rule.specs.RuleLists.{RuleLists}
 use Rattle.rw_rule.specs.declared.set.SetCell.{SetCell}
 use Rattle.rw_plain.specs.PlainStep.{name_of_right}
 use Rattle.rw_plain.specs.SetLists.{set_name}
-use Rattle.rw_plain.proofs.Mapped.{mapped_more}
-use Rattle.rw_plain.proofs.RuleParts.{object_known}
+use Rattle.rw_redex.proofs.Mapped.{mapped_more}
+use Rattle.rw_redex.proofs.RuleParts.{object_known}
 use Rattle.rw_plain.proofs.SetPlaces.{set_holder, set_part}
 use Rattle.rw_plain.proofs.cells.set_names.Goals as goal
 

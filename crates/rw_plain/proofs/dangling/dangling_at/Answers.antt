@@ -13,9 +13,9 @@ use Rattle.rw_table.proofs.Checked.{checked_known, row_whole}
 use Rattle.rw_rule.specs.declared.refusal.Refusal.{Refusal}
 use Rattle.rw_rule.specs.declared.refusal.Refusal.TheVariants.{Dangling}
 use Rattle.rw_rule.specs.RuleLists.{RuleLists}
-use Rattle.rw_plain.specs.Obstructions.{dangles}
-use Rattle.rw_plain.specs.PlainStep.{is_matched, is_removed}
-use Rattle.rw_plain.proofs.Firsts.{answer_here, answer_later}
+use Rattle.rw_redex.specs.Obstructions.{dangles}
+use Rattle.rw_redex.specs.Matched.{is_matched, is_removed}
+use Rattle.rw_redex.proofs.Firsts.{answer_here, answer_later}
 use Rattle.rw_plain.proofs.Tables.{dangles_at_place}
 use Rattle.rw_plain.proofs.dangling.dangling_at.Goals as goal
 

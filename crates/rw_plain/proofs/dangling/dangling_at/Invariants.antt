@@ -4,7 +4,7 @@ use Rattle.rw_schema.specs.First.{first_in, fault_unless}
 use Rattle.rw_schema.specs.Presentation.{ends_of_arrow}
 use Rattle.rw_spec.specs.Tabled.{instance_of_table}
 use Rattle.rw_rule.specs.declared.refusal.Refusal.TheVariants.{Dangling}
-use Rattle.rw_plain.specs.Obstructions.{dangles, dangling_at}
+use Rattle.rw_redex.specs.Obstructions.{dangles, dangling_at}
 use Rattle.rw_plain.proofs.dangling.dangling_at.Given as goal
 
 abbrev pub invariant-loop-place : goal.invariant-loop-place

@@ -4,9 +4,9 @@ use Rattle.rw_schema.specs.declared.parts.ArrowDef.{ArrowDef}
 use Rattle.rw_schema.specs.Presentation.{signature_of, ends_of_arrow}
 use Rattle.rw_pattern.proofs.Shapes.{ends_at}
 use Rattle.rw_spec.specs.Tabled.{instance_of_table}
-use Rattle.rw_plain.specs.Obstructions.{dangling_at}
-use Rattle.rw_plain.proofs.Firsts.{answer_here, answer_later}
-use Rattle.rw_plain.proofs.RuleParts.{listed_arrow_known}
+use Rattle.rw_redex.specs.Obstructions.{dangling_at}
+use Rattle.rw_redex.proofs.Firsts.{answer_here, answer_later}
+use Rattle.rw_redex.proofs.RuleParts.{listed_arrow_known}
 use Rattle.rw_plain.proofs.dangling.first_dangling.Goals as goal
 
 pub dangling_at-requires-clause-arrow : goal.dangling_at-requires-clause-arrow

@@ -3,7 +3,7 @@ use Rattle.std.proofs.Common.{◌≡◌, drop}
 use Rattle.rw_schema.specs.First.{first_in}
 use Rattle.rw_schema.specs.Presentation.{signature_of}
 use Rattle.rw_spec.specs.Tabled.{instance_of_table}
-use Rattle.rw_plain.specs.Obstructions.{dangling, dangling_at}
+use Rattle.rw_redex.specs.Obstructions.{dangling, dangling_at}
 use Rattle.rw_plain.proofs.dangling.first_dangling.Given as goal
 
 abbrev pub invariant-loop-number : goal.invariant-loop-number

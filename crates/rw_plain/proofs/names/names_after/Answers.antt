@@ -3,8 +3,8 @@ use Rattle.std.proofs.Common.{◌≡◌, ℕ, ◌+◌, ◌-◌, ◌≤◌, List,
 use Rattle.std.specs.List.{range_with_len}
 use Rattle.std.proofs.lemmas.List.{append_assoc}
 use Rattle.rw_schema.specs.RowLists.{RowLists, list_at}
-use Rattle.rw_plain.specs.PlainStep.{is_removed}
-use Rattle.rw_plain.proofs.Ranges.{range_more}
+use Rattle.rw_redex.specs.Matched.{is_removed}
+use Rattle.rw_redex.proofs.Ranges.{range_more}
 use Rattle.rw_plain.proofs.names.names_after.Goals as goal
 
 -- the names and the next ones so far, with one name more

@@ -2,7 +2,7 @@
 use Rattle.std.proofs.Common.{◌≡◌, ◌-◌, ◌++◌, not, filter, slice_index}
 use Rattle.std.specs.List.{range_with_len}
 use Rattle.rw_schema.specs.RowLists.{list_at}
-use Rattle.rw_plain.specs.PlainStep.{is_removed}
+use Rattle.rw_redex.specs.Matched.{is_removed}
 use Rattle.rw_plain.proofs.names.names_after.Given as goal
 
 abbrev pub invariant-loop-name : goal.invariant-loop-name

@@ -1,6 +1,6 @@
 -- The names so far that are not removed are there.
 use Rattle.std.proofs.Common.{◌≡◌, not, filter, take}
-use Rattle.rw_plain.specs.PlainStep.{is_removed}
+use Rattle.rw_redex.specs.Matched.{is_removed}
 use Rattle.rw_plain.proofs.names.names_kept.Given as goal
 
 abbrev pub invariant-loop-name : goal.invariant-loop-name

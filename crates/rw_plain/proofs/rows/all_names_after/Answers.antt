@@ -5,9 +5,9 @@ use Rattle.rw_schema.specs.Presentation.{signature_of}
 use Rattle.rw_schema.specs.Signature.{Signature}
 use Rattle.rw_spec.specs.Tabled.{Tabled, instance_of_table}
 use Rattle.rw_plain.specs.PlainStep.{names_after}
-use Rattle.rw_plain.proofs.Ranges.{map_more}
-use Rattle.rw_plain.proofs.Room.{room_at}
-use Rattle.rw_plain.proofs.RuleParts.{object_known}
+use Rattle.rw_redex.proofs.Ranges.{map_more}
+use Rattle.rw_redex.proofs.Room.{room_at}
+use Rattle.rw_redex.proofs.RuleParts.{object_known}
 use Rattle.rw_plain.proofs.Tables.{next_long}
 use Rattle.rw_plain.proofs.rows.all_names_after.Goals as goal
 

@@ -8,10 +8,10 @@ use Rattle.rw_spec.specs.Instance.{Instance}
 use Rattle.rw_rule.specs.RuleLists.{RuleLists}
 use Rattle.rw_spec.specs.Tabled.{Tabled, instance_of_table}
 use Rattle.rw_plain.specs.PlainStep.{names_after, value_after}
-use Rattle.rw_plain.specs.RuleParts.{HasArrow}
-use Rattle.rw_plain.proofs.Mapped.{mapped_in_more}
-use Rattle.rw_plain.proofs.Ranges.{mapped_long, mapped_at}
-use Rattle.rw_plain.proofs.RuleParts.{listed_arrow_known}
+use Rattle.rw_redex.specs.RuleParts.{HasArrow}
+use Rattle.rw_redex.proofs.Mapped.{mapped_in_more}
+use Rattle.rw_redex.proofs.Ranges.{mapped_long, mapped_at}
+use Rattle.rw_redex.proofs.RuleParts.{listed_arrow_known}
 use Rattle.rw_plain.proofs.rows.all_rows_after.Goals as goal
 
 -- the row of an arrow after the step

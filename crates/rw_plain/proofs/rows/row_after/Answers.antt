@@ -3,7 +3,8 @@ use Rattle.std.proofs.Common.{◌<◌, ℕ, List}
 use Rattle.std.proofs.lemmas.List.Elements.{All-same, All-get_or}
 use Rattle.rw_rule.specs.RuleLists.{RuleLists}
 use Rattle.rw_spec.specs.Tabled.{Tabled, instance_of_table}
-use Rattle.rw_plain.specs.PlainStep.{names_after, next_after}
+use Rattle.rw_plain.specs.PlainStep.{names_after}
+use Rattle.rw_redex.specs.NewParts.{next_after}
 use Rattle.rw_plain.proofs.NamesAfter.{names_below_after}
 use Rattle.rw_plain.proofs.rows.row_after.Goals as goal
 

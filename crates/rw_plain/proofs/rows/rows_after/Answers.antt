@@ -13,7 +13,8 @@ use Rattle.rw_spec.specs.Instance.{instance_of}
 use Rattle.rw_terms.specs.declared.code.OpCode.{OpCode}
 use Rattle.rw_rule.specs.RuleLists.{RuleLists}
 use Rattle.rw_spec.specs.Tabled.{Tabled}
-use Rattle.rw_plain.specs.PlainStep.{cell_after, names_after, next_after, value_after, rows_after}
+use Rattle.rw_plain.specs.PlainStep.{cell_after, names_after, value_after, rows_after}
+use Rattle.rw_redex.specs.NewParts.{next_after}
 use Rattle.rw_plain.proofs.rows.rows_after.Goals as goal
 
 -- of an arrow of a signature the row after the step

@@ -7,7 +7,7 @@ use Rattle.rw_spec.specs.Tabled.{instance_of_table}
 use Rattle.rw_pattern.specs.Matches.{value_of}
 use Rattle.rw_pattern.specs.PatternLists.{PatternLists}
 use Rattle.rw_rule.specs.RuleLists.{GoalLists}
-use Rattle.rw_plain.proofs.Ranges.{map_more}
+use Rattle.rw_redex.proofs.Ranges.{map_more}
 use Rattle.rw_plain.proofs.valuation.valuation_of.Goals as goal
 
 -- the value of a variable, or 0

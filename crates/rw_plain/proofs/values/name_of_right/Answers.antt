@@ -4,8 +4,9 @@ use Rattle.rw_schema.specs.RowLists.{list_at}
 use Rattle.rw_pattern.specs.MapFaults.{image_of}
 use Rattle.rw_pattern.specs.PatternLists.{map_of_tuple}
 use Rattle.rw_rule.specs.RuleLists.{RuleLists}
-use Rattle.rw_plain.specs.PlainStep.{name_from, name_of_right, new_before}
-use Rattle.rw_plain.proofs.Room.{room_at}
+use Rattle.rw_plain.specs.PlainStep.{name_from, name_of_right}
+use Rattle.rw_redex.specs.NewParts.{new_before}
+use Rattle.rw_redex.proofs.Room.{room_at}
 use Rattle.rw_plain.proofs.values.name_of_right.Goals as goal
 
 -- the name of the kept part at the place, where one is there

@@ -4,7 +4,8 @@ use Rattle.rw_schema.specs.Presentation.{ends_of_arrow}
 use Rattle.rw_schema.specs.RowLists.{RowLists, list_at}
 use Rattle.rw_rule.specs.RuleLists.{RuleLists}
 use Rattle.rw_spec.specs.Tabled.{Tabled, instance_of_table}
-use Rattle.rw_plain.specs.PlainStep.{new_parts, name_of_right}
+use Rattle.rw_redex.specs.NewParts.{new_parts}
+use Rattle.rw_plain.specs.PlainStep.{name_of_right}
 use Rattle.rw_plain.proofs.ArrowValues.{value_at_earlier, value_at_new}
 use Rattle.rw_plain.proofs.NewParts.{new_part_known}
 use Rattle.rw_plain.proofs.values.value_after.Goals as goal

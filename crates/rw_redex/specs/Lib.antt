@@ -1,0 +1,10 @@
+pub mod Gluing
+pub mod Instantiated
+pub mod Laws
+pub mod Matched
+pub mod NewParts
+pub mod Obstructions
+pub mod RuleParts
+pub mod SetValues
+pub mod Step
+pub mod Verdicts
