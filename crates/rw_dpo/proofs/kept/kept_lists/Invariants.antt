@@ -1,0 +1,8 @@
+-- The names of the objects so far.
+use Rattle.std.proofs.Common.{◌≡◌, map}
+use Rattle.std.specs.List.{range_with_len}
+use Rattle.rw_dpo.specs.Contexts.{kept_names}
+use Rattle.rw_dpo.proofs.kept.kept_lists.Given as goal
+
+abbrev pub invariant-loop-object : goal.invariant-loop-object
+invariant-loop-object l = map (λ list. list.items) l.lists.items ≡ map (kept_names l.rule l.tuple) (range_with_len 0 l.object)

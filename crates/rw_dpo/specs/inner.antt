@@ -1,0 +1,3 @@
+pub mod Blank
+pub mod Dangling
+pub mod Site

@@ -1,0 +1,16 @@
+pub mod Answer
+pub mod ChangeTo
+pub mod Classes
+pub mod Differences
+pub mod EachKind
+pub mod Examples
+pub mod Exists
+pub mod FirstClash
+pub mod Local
+pub mod OneVerdict
+pub mod Order
+pub mod Reached
+pub mod Renamed
+pub mod StepChange
+pub mod Verdict
+pub mod Widened

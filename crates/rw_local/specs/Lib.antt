@@ -1,0 +1,4 @@
+pub mod Answer
+pub mod OneVerdict
+pub mod Over
+pub mod inner

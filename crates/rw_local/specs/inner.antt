@@ -1,0 +1,3 @@
+pub mod ChangeTo
+pub mod Glued
+pub mod Local
