@@ -1,0 +1,9 @@
+pub mod Sources
+pub mod Valued
+pub mod Gathered
+pub mod Going
+pub mod Growth
+pub mod Reasons
+pub mod Settled
+pub mod PairIs
+pub mod PairLists

@@ -1,0 +1,13 @@
+-- The names of an object go behind the others.
+use Rattle.std.proofs.Common.{map, ap, ◌∙◌}
+use Rattle.std.proofs.lemmas.List.{map_push}
+use Rattle.rw_redex.proofs.Ranges.{map_more}
+use Rattle.rw_spo.specs.inner.Staying.{names_staying}
+use Rattle.rw_spo.proofs.staying.kept_lists.Goals as goal
+
+pub loop-object-preserved : goal.loop-object-preserved
+loop-object-preserved c =
+    ap (map (λ list. list.items)) c.in_ok-push.ensures.items
+    ∙ map_push (λ list. list.items) c.loop-object.lists.items c.in_ok-names_staying.field-0
+    ∙ map_more (names_staying c.args.removed.now c.args.rule.now c.args.tuple.now) c.loop-object.object
+    (map (λ list. list.items) c.loop-object.lists.items) c.in_ok-names_staying.field-0.items c.loop-object.invariant c.in_ok-names_staying.ensures

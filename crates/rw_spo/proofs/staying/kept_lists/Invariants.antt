@@ -1,0 +1,8 @@
+-- The lists of the objects so far.
+use Rattle.std.proofs.Common.{◌≡◌, map}
+use Rattle.std.specs.List.{range_with_len}
+use Rattle.rw_spo.specs.inner.Staying.{names_staying}
+use Rattle.rw_spo.proofs.staying.kept_lists.Given as goal
+
+abbrev pub invariant-loop-object : goal.invariant-loop-object
+invariant-loop-object l = map (λ list. list.items) l.lists.items ≡ map (names_staying l.removed l.rule l.tuple) (range_with_len 0 l.object)

@@ -1,0 +1,2 @@
+pub mod PairContexts
+pub mod inner

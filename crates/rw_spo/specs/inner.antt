@@ -1,0 +1,3 @@
+pub mod Removal
+pub mod Removed
+pub mod Staying
