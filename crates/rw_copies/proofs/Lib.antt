@@ -1,0 +1,19 @@
+pub mod Clear
+pub mod Context
+pub mod CopyingAt
+pub mod Counts
+pub mod Distinctness
+mod Examples
+pub mod Final
+pub mod InjectiveOnce
+pub mod KeptSet
+pub mod Listed
+pub mod Named
+pub mod Naming
+pub mod Once
+pub mod OneContext
+pub mod Order
+pub mod Past
+pub mod Placed
+pub mod Precedence
+pub mod TooLarge

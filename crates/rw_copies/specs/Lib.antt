@@ -1,0 +1,10 @@
+pub mod CopyLists
+pub mod CopyNames
+pub mod Copying
+pub mod CopyingAt
+pub mod FinalComplement
+pub mod KeptSet
+pub mod Laws
+pub mod Made
+pub mod Order
+pub mod TooLarge
