@@ -1,6 +1,6 @@
 //! The watches of a document.
 
-ghost use Rattle.std.specs.Prelude.{◌≡◌, ◌≤◌, [], All, IfOk, false, length, map, option_map};
+ghost use Rattle.std.specs.Prelude.{◌≡◌, ◌≤◌, ◌++◌, [], All, IfOk, false, length, map, option_map};
 ghost use Rattle.std.specs.List.{list_any};
 ghost use Rattle.std.specs.Str.{bytes_eq};
 ghost use Rattle.serde_json.specs.View.{view};
@@ -89,6 +89,7 @@ fn watches_of(
     requires few { length items.now ≤ 64 }
     ensures gives { Gives (λ watches. map lists_of_watch watches.items) result (each_after (spec.read_watch schema.now names.old) [] (map view items.now)) }
     ensures known { IfOk result (λ watches. All (λ watch. IsWatchRead (signature_of schema.now) (lists_of_watch watch)) watches.items) }
+    ensures names { IfOk result (λ watches. names.new ≡ names.old ++ spec.names_of_watches (map lists_of_watch watches.items)) }
     ensures few { IfOk result (λ watches. length watches.items ≤ 64) }
 {
     let mut watches = Vec::new(alloc);
@@ -109,6 +110,7 @@ pub fn read_watches(
 ) -> Result<Vec<Watch>, ReadDocEnd>
     ensures gives { Gives (λ watches. map lists_of_watch watches.items) result (spec.read_watches schema.now names.old (option_map (λ value. view value.now) value.entry)) }
     ensures known { IfOk result (λ watches. All (λ watch. IsWatchRead (signature_of schema.now) (lists_of_watch watch)) watches.items) }
+    ensures names { IfOk result (λ watches. names.new ≡ names.old ++ spec.names_of_watches (map lists_of_watch watches.items)) }
     ensures few { IfOk result (λ watches. length watches.items ≤ 64) }
 {
     let items = read_list_or_none(Section::Watches, MOST_WATCHES, value)?;

@@ -1,3 +1,4 @@
 mod Came
 mod Rests
+pub mod Sent
 mod Written

@@ -58,6 +58,30 @@ fn texts_are_written(rt: HostRuntime) -> Result<(), Fail> {
 }
 
 #[test]
+fn a_buffer_writes_in_pieces(rt: HostRuntime) -> Result<(), Fail> {
+    let alloc = rt.alloc();
+    // Room of the buffer, failing calls, what comes of "ab", "cd", "efgh" and of a flush, what is held then.
+    let fault = Err(WriteEnd::Fault);
+    let cases: [(usize, &[u64], [Result<(), WriteEnd>; 4], &[u8]); 5] = [
+        (9, &[], [Ok(()), Ok(()), Ok(()), Ok(())], b"abcdefgh"),
+        (3, &[], [Ok(()), Ok(()), Ok(()), Ok(())], b"abcdefgh"),
+        (0, &[], [Ok(()), Ok(()), Ok(()), Ok(())], b"abcdefgh"),
+        (9, &[0], [Ok(()), Ok(()), Ok(()), fault], b""),
+        (3, &[1], [Ok(()), Ok(()), fault, Ok(())], b"abcd"),
+    ];
+    for (room, failing, want, held) in cases {
+        let mut sink = MemSink::new(alloc, 9, failing.to_vec(alloc)?)?;
+        let mut buffer = Buffer::new(alloc, room)?;
+        assert_eq!(rt; buffer.put(&mut sink, b"ab"), want[0], "room {room}");
+        assert_eq!(rt; buffer.put(&mut sink, b"cd"), want[1], "room {room}");
+        assert_eq!(rt; buffer.put(&mut sink, b"efgh"), want[2], "room {room}");
+        assert_eq!(rt; buffer.flush(&mut sink), want[3], "room {room}");
+        assert_eq!(rt; sink.held(), held, "room {room}");
+    }
+    Ok(())
+}
+
+#[test]
 fn streams_of_std_are_adapted(rt: HostRuntime) -> Result<(), Fail> {
     let alloc = rt.alloc();
     let text: &[u8] = b"abc";

@@ -1,3 +1,4 @@
 pub mod Plain
 pub mod PlainAtoms
 pub mod PlainLimits
+pub mod PlainRuns

@@ -13,7 +13,7 @@ use Rattle.rw_print.proofs.PlainAtoms.{no_float_in_atom, no_float_in_cell}
 use Rattle.rw_print.proofs.Plain.{no_float_in, no_float_in_counts, no_float_in_tuples}
 
 -- the cells of an attribute have no float
-no_float_in_cells : (cells : List (Option Atom)) → has_float (cells_data cells) ≡ false
+pub no_float_in_cells : (cells : List (Option Atom)) → has_float (cells_data cells) ≡ false
 no_float_in_cells cells = no_float_in cell_data cells no_float_in_cell
 
 -- the line of a limit has no float

@@ -1,3 +1,4 @@
 pub mod Atoms
 pub mod Limits
 pub mod Lines
+pub mod RunLines

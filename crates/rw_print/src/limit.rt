@@ -75,7 +75,7 @@ fn image_lists(alloc: Global, images: &PartMap) -> Result<Vec<Value>, AllocError
 }
 
 /// The images under each arrow, as values.
-fn arrow_rows(alloc: Global, rows: &Rows) -> Result<Vec<Value>, AllocError>
+pub(crate) fn arrow_rows(alloc: Global, rows: &Rows) -> Result<Vec<Value>, AllocError>
     requires { length rows.now.arrows ≤ 256 }
     ensures { IfOk result (λ values. map view values.items ≡ map tuple_data rows.now.arrows) }
 {
@@ -101,7 +101,7 @@ fn sizes_of(alloc: Global, rows: &Rows) -> Result<Vec<Value>, AllocError>
 }
 
 /// The cells of each attribute, as values.
-fn cell_lists(alloc: Global, rows: &Rows) -> Result<Vec<Value>, AllocError>
+pub(crate) fn cell_lists(alloc: Global, rows: &Rows) -> Result<Vec<Value>, AllocError>
     requires { length rows.now.cells ≤ 256 }
     ensures { IfOk result (λ values. map view values.items ≡ map cells_data rows.now.cells) }
 {
