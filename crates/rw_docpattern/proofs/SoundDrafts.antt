@@ -82,7 +82,7 @@ entries_sound schema piece form shape =
     })))))
 
 -- a draft of a form is sound
-form_sound : (schema : Presentation) (piece : Piece) (form : PatternForm) (draft : Draft) → draft_of schema piece form ≡ Ok draft → IsSound schema draft
+pub form_sound : (schema : Presentation) (piece : Piece) (form : PatternForm) (draft : Draft) → draft_of schema piece form ≡ Ok draft → IsSound schema draft
 form_sound schema piece form =
     let C = signature_of schema in
     checked_then (IsSound schema) (fault_in piece 2) (has_shape C (bare_lists C form)) _

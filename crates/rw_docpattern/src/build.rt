@@ -33,7 +33,7 @@ fn rows_of(alloc: Global, schema: &Schema, bare: &Pattern) -> Result<Vec<Vec<u32
 }
 
 /// The lists of the pattern, with these entries.
-fn parts_with(
+pub fn parts_with(
     alloc: Global,
     schema: &Schema,
     bare: &Pattern,
@@ -49,7 +49,7 @@ fn parts_with(
 }
 
 /// The pattern of the parts with variables of these kinds, or the fault that a variable is of two kinds.
-fn pattern_of(
+pub fn pattern_of(
     alloc: Global,
     schema: &Schema,
     piece: Piece,

@@ -25,9 +25,9 @@ use std::alloc::Global;
 
 /// A pattern without its entries, and the entries.
 #[derive(Drop)]
-pub(crate) struct Draft {
-    pub(crate) bare: Pattern,
-    pub(crate) entries: Vec<Entry>,
+pub struct Draft {
+    pub bare: Pattern,
+    pub entries: Vec<Entry>,
 }
 
 /// Whether the parts and the entries are few enough, and the terms within the limits.
@@ -73,7 +73,12 @@ fn entries_of(
 }
 
 /// The draft of the form, or the first fault but those of what may stand in a term.
-fn draft_of(alloc: Global, schema: &Schema, piece: Piece, form: Form) -> Result<Draft, ReadDocEnd>
+pub fn draft_of(
+    alloc: Global,
+    schema: &Schema,
+    piece: Piece,
+    form: Form,
+) -> Result<Draft, ReadDocEnd>
     ensures { Gives draft_seen result (spec.draft_of schema.now piece (form_of form)) }
 {
     let Form {

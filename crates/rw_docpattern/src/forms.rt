@@ -15,10 +15,10 @@ use std::alloc::Global;
 
 /// What is written of a pattern: the numbers of parts, the rows, and the entries on cells.
 #[derive(Drop)]
-pub(crate) struct Form {
-    pub(crate) sizes: Vec<u32>,
-    pub(crate) rows: Vec<Vec<u32>>,
-    pub(crate) entries: Vec<WrittenEntry>,
+pub struct Form {
+    pub sizes: Vec<u32>,
+    pub rows: Vec<Vec<u32>>,
+    pub entries: Vec<WrittenEntry>,
 }
 
 /// The entry of the attribute's name, the part and the term that the items are.
@@ -103,11 +103,7 @@ fn form_from(alloc: Global, value: &Value) -> Result<Option<Form>, OutOfMemory>
 }
 
 /// The form of a pattern with no other keys than these, or nothing where the value is none.
-pub(crate) fn form_with(
-    alloc: Global,
-    keys: &[&str],
-    value: &Value,
-) -> Result<Option<Form>, OutOfMemory>
+pub fn form_with(alloc: Global, keys: &[&str], value: &Value) -> Result<Option<Form>, OutOfMemory>
     ensures { IfOk result (λ form. option_map form_of form ≡ spec.form_with (map (λ key. key.now) keys.now) (view value.now)) }
 {
     if has_only(keys, value) {

@@ -1,6 +1,6 @@
 //! The variables of a pattern, numbered by the places where they first stand.
 
-ghost use Rattle.std.specs.Prelude.{◌≡◌, ◌<◌, ◌≤◌, All, IfOk, IfSome, false, length};
+ghost use Rattle.std.specs.Prelude.{◌≡◌, ◌<◌, ◌≤◌, ◌^◌, All, IfOk, IfSome, false, length};
 ghost use Rattle.std.specs.List.{list_any};
 ghost use Rattle.std.specs.Option.{option_map};
 ghost use Rattle.std.specs.Str.{bytes_eq};
@@ -29,7 +29,7 @@ fn variable_name(term: &WrittenTerm) -> Option<&Text>
 }
 
 /// The name of a variable that is none of those that were met.
-fn new_name<'t>(names: &NameIndex, term: &'t WrittenTerm) -> Option<&'t Text>
+pub fn new_name<'t>(names: &NameIndex, term: &'t WrittenTerm) -> Option<&'t Text>
     ensures name { option_map (λ name. name.now) result ≡ new_name_of names.now (spec.variable_name term.now) }
     ensures new { IfSome result (λ name. list_any (bytes_eq name.now) names.now ≡ false) }
 {
@@ -42,7 +42,7 @@ fn new_name<'t>(names: &NameIndex, term: &'t WrittenTerm) -> Option<&'t Text>
 }
 
 /// The kind of the entry's attribute.
-fn kind_of(schema: &Schema, entry: &Entry) -> Kind
+pub fn kind_of(schema: &Schema, entry: &Entry) -> Kind
     requires { entry.now.attr.0 < length schema.now.attributes }
     ensures { result ≡ spec.kind_at schema.now.attributes entry.now }
 {
@@ -73,7 +73,7 @@ pub(crate) fn variables_of(
 
 /// The number of the name, or the greatest number where it is that of no variable.
 pub(crate) fn number_in(names: &NameIndex, name: &str) -> u32
-    requires { length names.now ≤ 256 }
+    requires { length names.now < 2 ^ 32 }
     ensures { result ≡ spec.number_in names.now name.now }
 {
     let number = names.number_of(name).unwrap_or(u32::MAX as usize);

@@ -1,6 +1,6 @@
 //! What the entries of a pattern want.
 
-ghost use Rattle.std.specs.Prelude.{◌≡◌, ◌≤◌, IfOk, length, option_map};
+ghost use Rattle.std.specs.Prelude.{◌≡◌, ◌<◌, ◌^◌, IfOk, length, option_map};
 ghost use Rattle.rw_doc.specs.Chain.{all_some};
 ghost use Rattle.rw_docpattern.specs.Patterns as spec;
 
@@ -12,7 +12,7 @@ use std::alloc::Global;
 
 /// The atom, or the number of the variable; nothing where the term is an operation.
 fn want_of(names: &NameIndex, term: WrittenTerm) -> Option<Want>
-    requires { length names.now ≤ 256 }
+    requires { length names.now < 2 ^ 32 }
     ensures { result ≡ spec.want_of names.now term }
 {
     match term {
@@ -24,7 +24,7 @@ fn want_of(names: &NameIndex, term: WrittenTerm) -> Option<Want>
 
 /// The entry with the number of its variable.
 fn cell_of(names: &NameIndex, entry: Entry) -> Option<PatternCell>
-    requires { length names.now ≤ 256 }
+    requires { length names.now < 2 ^ 32 }
     ensures { result ≡ spec.cell_of names.now entry }
 {
     let Entry { attr, part, term } = entry;
@@ -33,12 +33,12 @@ fn cell_of(names: &NameIndex, entry: Entry) -> Option<PatternCell>
 }
 
 /// The entries with the numbers of their variables, or nothing where a term is an operation.
-pub(crate) fn cells_of(
+pub fn cells_of(
     alloc: Global,
     names: &NameIndex,
     entries: Vec<Entry>,
 ) -> Result<Option<Vec<PatternCell>>, OutOfMemory>
-    requires { length names.now ≤ 256 }
+    requires { length names.now < 2 ^ 32 }
     ensures { IfOk result (λ cells. option_map (λ cells. cells.items) cells ≡ all_some (spec.cell_of names.now) entries.items) }
 {
     let mut cells = Vec::new(alloc);

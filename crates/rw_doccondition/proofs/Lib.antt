@@ -1,0 +1,4 @@
+pub mod BothGive
+pub mod Counted
+pub mod GrownKinds
+pub mod Turns

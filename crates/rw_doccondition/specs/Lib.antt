@@ -1,0 +1,7 @@
+pub mod Both
+pub mod Conditions
+pub mod Forms
+pub mod Images
+pub mod Members
+pub mod Reads
+pub mod Variables

@@ -1,0 +1,14 @@
+pub mod MetConditions
+pub mod Cheap
+pub mod Counts
+pub mod Deltas
+pub mod Differences
+pub mod Extended
+pub mod Grouped
+pub mod Indexed
+pub mod Locality
+pub mod Placed
+pub mod Refresh
+pub mod Restricted
+pub mod Sought
+pub mod Through
