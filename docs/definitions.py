@@ -9,7 +9,7 @@ TOP = pathlib.Path(__file__).resolve().parent.parent
 PAGE = TOP / "docs/DEFINITIONS.md"
 CORE = TOP / "docs/core.txt"
 # Crates whose definitions say how documents are read and lines are printed.
-FORMATS = {"rw_doc", "rw_docspan", "rw_docpattern", "rw_docrule", "rw_docwatch", "rw_document", "rw_print"}
+FORMATS = {"rw_doc", "rw_docspan", "rw_docpattern", "rw_docrule", "rw_doccondition", "rw_docschedule", "rw_docwatch", "rw_document", "rw_print"}
 
 HEAD = re.compile(r"^(?:abbrev |unfoldable )?pub (?:record |data )?([^\s:(]+)")
 USE = re.compile(r"^\s*(?:ghost )?use Rattle\.([\w.]+?)(?:\.\{([^}]*)\}|(?: as (\w+)))?;?\s*$", re.M)
