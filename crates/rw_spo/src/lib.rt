@@ -13,7 +13,5 @@ mod removal;
 mod removed;
 mod start;
 mod staying;
-#[cfg(test)]
-mod tests;
 
 pub use pair::largest_pair;
