@@ -14,7 +14,7 @@ use Rattle.rw_app.specs.declared.firing.Fired.{Fired}
 use Rattle.rw_app.specs.declared.runner.Ran.{Ran}
 use Rattle.rw_app.specs.declared.world.World.{World}
 use Rattle.rw_app.specs.RunTexts.{firing_line}
-use Rattle.rw_app.specs.Runners.{IsWorld, IsFiring, HasRun, HasBegun, at_first}
+use Rattle.rw_app.specs.Runners.{IsWorld, IsFiring, HasRun, HasBegun, at_first, rows_in}
 use Rattle.rw_app.specs.Runs.{Firing, IsFired, Leads, Stand, default_schedule, place_after, stand_after}
 use Rattle.rw_app.specs.Runs as runs
 
@@ -50,10 +50,10 @@ text_more document written line firings firing before is =
     ∙ sym (flat_map-append (firing_line document) firings (firing ∷ []))
 
 -- the first rule's box is the one at which the run stands
-is_fired : (codes : List OpCode) (document : DocumentLists) (rule : RuleLists) (others : List RuleLists) (left : ℕ) (now : RowLists) (fired : Fired) (firing : Firing)
-    → document.rules ≡ rule ∷ others → 0 < left → IsFiring codes document rule now fired firing
-    → IsFired (signature_of document.schema) codes (default_schedule document.rules) (at_first left now) firing
-is_fired codes document rule others left now fired firing rules fuel fires = record {
+is_fired : (codes : List OpCode) (document : DocumentLists) (rule : RuleLists) (others : List RuleLists) (left : ℕ) (now next : World) (fired : Fired) (firing : Firing)
+    → document.rules ≡ rule ∷ others → 0 < left → IsFiring codes document rule now next fired firing
+    → IsFired (signature_of document.schema) codes (default_schedule document.rules) (at_first left (rows_in now)) firing
+is_fired codes document rule others left now next fired firing rules fuel fires = record {
   box = ap (λ (list : List RuleLists). slice_get (default_schedule list) 0) rules ∙ ap (λ (other : RuleLists). Some (runs.rule other)) (sym fires.of_rule);
   fuel = fuel;
   place = fires.at_place;
@@ -62,16 +62,16 @@ is_fired codes document rule others left now fired firing rules fuel fires = rec
 }
 
 -- a run from where a firing leads is one from where the firings before it began
-leads_on : (codes : List OpCode) (document : DocumentLists) (rule : RuleLists) (others : List RuleLists) (fuel left : ℕ) (rows now : RowLists) (written : List ℕ)
+leads_on : (codes : List OpCode) (document : DocumentLists) (rule : RuleLists) (others : List RuleLists) (fuel left : ℕ) (rows : RowLists) (now next : World) (written : List ℕ)
     → (firings : List Firing) (fired : Fired) (firing : Firing)
-    → document.rules ≡ rule ∷ others → 0 < left → HasBegun codes document fuel left rows now written firings → IsFiring codes document rule now fired firing
+    → document.rules ≡ rule ∷ others → 0 < left → HasBegun codes document fuel left rows (rows_in now) written firings → IsFiring codes document rule now next fired firing
     → (more : List Firing) (last : Stand) (end : End)
-    → Leads (signature_of document.schema) codes (default_schedule document.rules) (stand_after (at_first left now) firing) more last end
+    → Leads (signature_of document.schema) codes (default_schedule document.rules) (stand_after (at_first left (rows_in now)) firing) more last end
     → Leads (signature_of document.schema) codes (default_schedule document.rules) (at_first fuel rows) ((firings ++ firing ∷ []) ++ more) last end
-leads_on codes document rule others fuel left rows now written firings fired firing rules some begun fires more last end leads =
+leads_on codes document rule others fuel left rows now next written firings fired firing rules some begun fires more last end leads =
     subst (λ (all : List Firing). Leads (signature_of document.schema) codes (default_schedule document.rules) (at_first fuel rows) all last end)
     (sym (append_assoc firings (firing ∷ []) more))
-    (begun.leads (firing ∷ more) last end (is_fired codes document rule others left now fired firing rules some fires, leads))
+    (begun.leads (firing ∷ more) last end (is_fired codes document rule others left now next fired firing rules some fires, leads))
 
 -- ---- how a run goes on and ends
 
@@ -80,54 +80,54 @@ pub begun_at : (codes : List OpCode) (document : DocumentLists) (fuel : ℕ) (ro
 begun_at codes document fuel rows = record { text = refl; leads = λ more last end leads. leads }
 
 -- a run that fired and applied a match goes on with one fuel less
-pub begun_more : (codes : List OpCode) (document : DocumentLists) (rule : RuleLists) (others : List RuleLists) (fuel left : ℕ) (rows now : RowLists) (written : List ℕ)
+pub begun_more : (codes : List OpCode) (document : DocumentLists) (rule : RuleLists) (others : List RuleLists) (fuel left : ℕ) (rows : RowLists) (now next : World) (written : List ℕ)
     → (firings : List Firing) (fired : Fired) (firing : Firing)
-    → document.rules ≡ rule ∷ others → 0 < left → HasBegun codes document fuel left rows now written firings → IsFiring codes document rule now fired firing
+    → document.rules ≡ rule ∷ others → 0 < left → HasBegun codes document fuel left rows (rows_in now) written firings → IsFiring codes document rule now next fired firing
     → fired.applied ≡ true
-    → HasBegun codes document fuel (left - 1) rows fired.world.table.rows (written ++ fired.line.items) (firings ++ firing ∷ [])
-begun_more codes document rule others fuel left rows now written firings fired firing rules some begun fires applied = record {
+    → HasBegun codes document fuel (left - 1) rows (rows_in next) (written ++ fired.line.items) (firings ++ firing ∷ [])
+begun_more codes document rule others fuel left rows now next written firings fired firing rules some begun fires applied = record {
   text = text_more document written fired.line.items firings firing begun.text fires.line;
   leads = λ more last end leads.
       let place : place_after firing.applied ≡ 0 = applied_place firing.applied (fires.applies ∙ applied) in
-      let stand : stand_after (at_first left now) firing ≡ at_first (left - 1) fired.world.table.rows =
-      stands_after (at_first left now) firing 0 fired.world.table.rows place fires.to_rows in
-      leads_on codes document rule others fuel left rows now written firings fired firing rules some begun fires more last end
+      let stand : stand_after (at_first left (rows_in now)) firing ≡ at_first (left - 1) (rows_in next) =
+      stands_after (at_first left (rows_in now)) firing 0 (rows_in next) place fires.to_rows in
+      leads_on codes document rule others fuel left rows now next written firings fired firing rules some begun fires more last end
       (subst (λ (from : Stand). Leads (signature_of document.schema) codes (default_schedule document.rules) from more last end) (sym stand) leads);
 }
 
 -- a run that fired and applied nothing ends at the exit
-pub run_ended : (codes : List OpCode) (document : DocumentLists) (rule : RuleLists) (others : List RuleLists) (fuel left : ℕ) (rows now : RowLists) (written : List ℕ)
+pub run_ended : (codes : List OpCode) (document : DocumentLists) (rule : RuleLists) (others : List RuleLists) (fuel left : ℕ) (rows : RowLists) (now next : World) (written : List ℕ)
     → (firings : List Firing) (fired : Fired) (firing : Firing) (ran : Ran)
-    → document.rules ≡ rule ∷ others → 0 < left → HasBegun codes document fuel left rows now written firings → IsFiring codes document rule now fired firing
-    → fired.applied ≡ false → ran.text.items ≡ written ++ fired.line.items → ran.end ≡ Done → ran.fuel ≡ left - 1 → ran.world ≡ fired.world
-    → HasRun codes document fuel rows ran (firings ++ firing ∷ []) (record { place = 1; fuel = left - 1; rows = fired.world.table.rows })
-run_ended codes document rule others fuel left rows now written firings fired firing ran rules some begun fires failed text end left_is world_is =
-    let last : Stand = record { place = 1; fuel = left - 1; rows = fired.world.table.rows } in
+    → document.rules ≡ rule ∷ others → 0 < left → HasBegun codes document fuel left rows (rows_in now) written firings → IsFiring codes document rule now next fired firing
+    → fired.applied ≡ false → ran.text.items ≡ written ++ fired.line.items → ran.end ≡ Done → ran.fuel ≡ left - 1
+    → HasRun codes document fuel rows ran next (firings ++ firing ∷ []) (record { place = 1; fuel = left - 1; rows = rows_in next })
+run_ended codes document rule others fuel left rows now next written firings fired firing ran rules some begun fires failed text end left_is =
+    let last : Stand = record { place = 1; fuel = left - 1; rows = rows_in next } in
     let place : place_after firing.applied ≡ 1 = failed_place firing.applied (fires.applies ∙ failed) in
-    let stand : stand_after (at_first left now) firing ≡ last = stands_after (at_first left now) firing 1 fired.world.table.rows place fires.to_rows in
+    let stand : stand_after (at_first left (rows_in now)) firing ≡ last = stands_after (at_first left (rows_in now)) firing 1 (rows_in next) place fires.to_rows in
     let exit : slice_get (default_schedule document.rules) 1 ≡ Some runs.exit = ap (λ (list : List RuleLists). slice_get (default_schedule list) 1) rules in
-    let ends : Leads (signature_of document.schema) codes (default_schedule document.rules) (stand_after (at_first left now) firing) [] last Done =
+    let ends : Leads (signature_of document.schema) codes (default_schedule document.rules) (stand_after (at_first left (rows_in now)) firing) [] last Done =
     (sym stand, subst (λ (from : Stand). slice_get (default_schedule document.rules) from.place ≡ Some runs.exit) (sym stand) exit) in
     let leads : Leads (signature_of document.schema) codes (default_schedule document.rules) (at_first fuel rows) (firings ++ firing ∷ []) last Done =
     subst (λ (all : List Firing). Leads (signature_of document.schema) codes (default_schedule document.rules) (at_first fuel rows) all last Done)
     (append-nil (firings ++ firing ∷ []))
-    (leads_on codes document rule others fuel left rows now written firings fired firing rules some begun fires [] last Done ends) in
+    (leads_on codes document rule others fuel left rows now next written firings fired firing rules some begun fires [] last Done ends) in
     record {
       text = text ∙ text_more document written fired.line.items firings firing begun.text fires.line;
       leads = subst (λ (other : End). Leads (signature_of document.schema) codes (default_schedule document.rules) (at_first fuel rows) (firings ++ firing ∷ []) last other) (sym end) leads;
       fuel_left = sym left_is;
-      last_rows = ap (λ (world : World). world.table.rows) (sym world_is);
-      world = subst (λ (world : World). IsWorld document world) (sym world_is) fires.world;
+      last_rows = refl;
+      ends_in = fires.world;
     }
 
 -- a run without fuel ends at the rule's box
-pub run_spent : (codes : List OpCode) (document : DocumentLists) (rule : RuleLists) (others : List RuleLists) (fuel : ℕ) (rows : RowLists) (written : List ℕ)
+pub run_spent : (codes : List OpCode) (document : DocumentLists) (rule : RuleLists) (others : List RuleLists) (fuel : ℕ) (rows : RowLists) (now : World) (written : List ℕ)
     → (firings : List Firing) (ran : Ran)
-    → document.rules ≡ rule ∷ others → HasBegun codes document fuel 0 rows ran.world.table.rows written firings → IsWorld document ran.world
+    → document.rules ≡ rule ∷ others → HasBegun codes document fuel 0 rows (rows_in now) written firings → IsWorld document now
     → ran.text.items ≡ written → ran.end ≡ Spent → ran.fuel ≡ 0
-    → HasRun codes document fuel rows ran firings (at_first 0 ran.world.table.rows)
-run_spent codes document rule others fuel rows written firings ran rules begun world text end left_is =
-    let last : Stand = at_first 0 ran.world.table.rows in
+    → HasRun codes document fuel rows ran now firings (at_first 0 (rows_in now))
+run_spent codes document rule others fuel rows now written firings ran rules begun world text end left_is =
+    let last : Stand = at_first 0 (rows_in now) in
     let box : slice_get (default_schedule document.rules) 0 ≡ Some (runs.rule rule) = ap (λ (list : List RuleLists). slice_get (default_schedule list) 0) rules in
     let leads : Leads (signature_of document.schema) codes (default_schedule document.rules) (at_first fuel rows) (firings ++ []) last Spent =
     begun.leads [] last Spent (refl, ((rule, box), refl)) in
@@ -138,7 +138,7 @@ run_spent codes document rule others fuel rows written firings ran rules begun w
       leads = subst (λ (other : End). Leads (signature_of document.schema) codes (default_schedule document.rules) (at_first fuel rows) firings last other) (sym end) whole;
       fuel_left = sym left_is;
       last_rows = refl;
-      world = world;
+      ends_in = world;
     }
 
 -- a list without a first item is empty
@@ -147,13 +147,13 @@ none_first [] none = refl
 none_first (x ∷ xs) none = let never : ⊥ = cc in absurd never
 
 -- without rules the first box is the exit, so the run is done at once
-pub run_without_rules : (codes : List OpCode) (document : DocumentLists) (fuel : ℕ) (rows : RowLists) (ran : Ran) → document.rules ≡ [] → ran.text.items ≡ []
-    → ran.end ≡ Done → ran.fuel ≡ fuel → ran.world.table.rows ≡ rows → IsWorld document ran.world
-    → HasRun codes document fuel rows ran [] (at_first fuel rows)
-run_without_rules codes document fuel rows ran none text ended left same world = record {
+pub run_without_rules : (codes : List OpCode) (document : DocumentLists) (fuel : ℕ) (ran : Ran) (now : World) → document.rules ≡ [] → ran.text.items ≡ []
+    → ran.end ≡ Done → ran.fuel ≡ fuel → IsWorld document now
+    → HasRun codes document fuel (rows_in now) ran now [] (at_first fuel (rows_in now))
+run_without_rules codes document fuel ran now none text ended left world = record {
   text = text;
   leads = rw (none, ended) (refl, refl);
   fuel_left = sym left;
-  last_rows = sym same;
-  world = world;
+  last_rows = refl;
+  ends_in = world;
 }

@@ -1,4 +1,6 @@
 pub mod AnswerStatuses
+pub mod ChangedLists
+pub mod ColumnLists
 pub mod Complete
 pub mod Differences
 pub mod Found
@@ -10,10 +12,12 @@ pub mod Listable
 pub mod Obstructed
 pub mod OneAnswer
 pub mod OneRun
+pub mod OneVerdict
 pub mod Picking
 pub mod ReadSides
 pub mod Seeds
 pub mod SomeRun
 pub mod Telling
 pub mod Tried
+pub mod Verdicts
 pub mod Words

@@ -157,7 +157,7 @@ others_well ops schema value =
 over_well : (ops : List OpEntry) (schema : Presentation) → IsCategory (signature_of schema) → (value : Data) (document : DocumentLists)
     → documents.read_over schema ops value ≡ Ok document → IsReadWell document
 over_well ops schema category value =
-    chain IsReadWell (documents.instance_or_none (signature_of schema) (get (codes "instance") value)) _
+    chain IsReadWell (documents.instance_or_none (signature_of schema) (documents.allows_blanks value) (get (codes "instance") value)) _
     (λ table table_is. chain IsReadWell (documents.read_others schema ops value) _
     (λ others others_are document is.
     let read : DocumentLists = documents.document_with schema table others in

@@ -1,74 +1,111 @@
--- The tuples of a list are tried in order, and the first without an obstruction is picked.
-use Rattle.std.proofs.Common.{◌≡◌, ℕ, List, [], ◌∷◌, ◌++◌, Option, Some, None, refl, sym, ap, arith}
-use Rattle.std.proofs.lemmas.List.Elements.{All-nil, All-cons, All-tail}
-use Rattle.rw_schema.specs.RowLists.{RowLists}
-use Rattle.rw_schema.specs.Signature.{Signature}
-use Rattle.rw_terms.specs.declared.code.OpCode.{OpCode}
-use Rattle.rw_rule.specs.RuleLists.{RuleLists}
+-- The tuples of a list are tried in order, and the first that fits is taken: that is done in one way.
+use Rattle.std.proofs.Common.{◌≡◌, ◌⊎◌, ℕ, Contains, List, [], ◌∷◌, ◌++◌, Option, Some, None, inl, inr, refl, sym, ap, ◌∙◌, subst, arith}
+use Rattle.std.specs.List.{All}
+use Rattle.std.proofs.lemmas.List.Elements.{All-nil, All-cons, All-head, All-tail}
+use Rattle.rw_spec.proofs.Sequences.{contains_here, contains_later}
 use Rattle.rw_rule.specs.declared.refusal.Refusal.{Refusal}
-use Rattle.rw_plain.specs.Obstructions.{obstruction}
-use Rattle.rw_app.specs.Runs.{AreRefused, tuples_of, Picks}
+use Rattle.rw_app.specs.Runs.{tuples_of, TakesFirst}
 
--- what is refused, and what is picked
+-- what is refused, and what is taken
 abbrev pub Tried : Type 0
 Tried = List (List ℕ × Refusal) × Option (List ℕ)
 
--- a tuple is picked where nothing is in the way, else it is refused before the others are tried
-abbrev pub after_try : Option Refusal → List ℕ → Tried → Tried
-after_try None tuple others = ([], Some tuple)
-after_try (Some refusal) tuple others = ((tuple, refusal) ∷ others.0, others.1)
+-- a tuple that is refused comes before those that are tried later
+abbrev after_refused : List ℕ × Refusal → Tried → Tried
+after_refused entry others = (entry ∷ others.0, others.1)
 
--- the tuples of a list are tried in order
-abbrev pub tried : (List ℕ → Option Refusal) → List (List ℕ) → Tried
-tried obstructs [] = ([], None)
-tried obstructs (tuple ∷ tuples) = after_try (obstructs tuple) tuple (tried obstructs tuples)
+-- lists with these first items and the same rest begin with the same item
+heads_same : {X : Type 0} (x y : X) (xs ys : List X) → x ∷ xs ≡ y ∷ ys → x ≡ y
+heads_same x y xs ys same = cc
 
--- a refused tuple comes before those that are tried later
-tried_later : (obstructs : List ℕ → Option Refusal) (tuple : List ℕ) (refusal : Refusal) (tuples : List (List ℕ)) (refused : List (List ℕ × Refusal)) (applied : Option (List ℕ))
-    → obstructs tuple ≡ Some refusal → tried obstructs tuples ≡ (refused, applied) → tried obstructs (tuple ∷ tuples) ≡ ((tuple, refusal) ∷ refused, applied)
-tried_later obstructs tuple refusal tuples refused applied is later = rw (is, later) refl
+-- and go on with the same items
+tails_same : {X : Type 0} (x y : X) (xs ys : List X) → x ∷ xs ≡ y ∷ ys → xs ≡ ys
+tails_same x y xs ys same = cc
 
--- the tuple has this first obstruction
-abbrev HasObstruction : Signature → List OpCode → RuleLists → RowLists → List ℕ × Refusal → Type 0
-HasObstruction C codes r rows entry = obstruction C codes r entry.0 rows ≡ Some entry.1
+-- no item comes before an empty list
+none_is : {X : Type 0} (x : X) (xs : List X) → [] ≡ x ∷ xs → ⊥
+none_is x xs same = cc
 
--- where all tuples are refused none is picked
-none_picked : (C : Signature) (codes : List OpCode) (r : RuleLists) (rows : RowLists) (refused : List (List ℕ × Refusal)) → AreRefused C codes r rows refused
-    → tried (λ tuple. obstruction C codes r tuple rows) (tuples_of refused) ≡ (refused, None)
-none_picked C codes r rows [] are = refl
-none_picked C codes r rows (entry ∷ refused) are =
-    tried_later (λ tuple. obstruction C codes r tuple rows) entry.0 entry.1 (tuples_of refused) refused None
-    (are 0 entry (omega arith)) (none_picked C codes r rows refused (All-tail (HasObstruction C codes r rows) entry refused are))
+module _ (Fits : List ℕ → Type 0) (Fails : List ℕ → Refusal → Type 0) where
+  -- the entry fails for its reason
+  abbrev FailsSo : List ℕ × Refusal → Type 0
+  FailsSo entry = Fails entry.0 entry.1
 
--- the first tuple without an obstruction is picked
-one_picked : (C : Signature) (codes : List OpCode) (r : RuleLists) (rows : RowLists) (refused : List (List ℕ × Refusal)) (tuple : List ℕ) (rest : List (List ℕ))
-    → AreRefused C codes r rows refused → obstruction C codes r tuple rows ≡ None
-    → tried (λ other. obstruction C codes r other rows) (tuples_of refused ++ tuple ∷ rest) ≡ (refused, Some tuple)
-one_picked C codes r rows [] tuple rest are free = rw free refl
-one_picked C codes r rows (entry ∷ refused) tuple rest are free =
-    tried_later (λ other. obstruction C codes r other rows) entry.0 entry.1 (tuples_of refused ++ tuple ∷ rest) refused (Some tuple)
-    (are 0 entry (omega arith)) (one_picked C codes r rows refused tuple rest (All-tail (HasObstruction C codes r rows) entry refused are) free)
+  -- a refused tuple is put before what is tried later
+  pub taken_later : (entry : List ℕ × Refusal) (found : List (List ℕ)) (refused : List (List ℕ × Refusal)) (applied : Option (List ℕ)) → FailsSo entry
+      → TakesFirst Fits Fails found refused applied → TakesFirst Fits Fails (entry.0 ∷ found) (entry ∷ refused) applied
+  taken_later entry found refused None fails takes = (ap (λ more. entry.0 ∷ more) takes.0, All-cons FailsSo entry refused fails takes.1)
+  taken_later entry found refused (Some tuple) fails takes =
+      ((takes.0.0, ap (λ more. entry.0 ∷ more) takes.0.1), All-cons FailsSo entry refused fails takes.1, takes.2)
 
--- what is picked of a list is what is picked when its tuples are tried
-pub picked : (C : Signature) (codes : List OpCode) (r : RuleLists) (rows : RowLists) (found : List (List ℕ)) (refused : List (List ℕ × Refusal)) (applied : Option (List ℕ))
-    → Picks C codes r rows found refused applied → (refused, applied) ≡ tried (λ tuple. obstruction C codes r tuple rows) found
-picked C codes r rows found refused None picks = rw picks.0 (sym (none_picked C codes r rows refused picks.1))
-picked C codes r rows found refused (Some tuple) picks =
-    rw picks.0.1 (sym (one_picked C codes r rows refused tuple picks.0.0 picks.1 picks.2))
+  -- what is tried behind a refused tuple
+  tried_behind : (entry : List ℕ × Refusal) (tuple : List ℕ) (found : List (List ℕ)) (refused : List (List ℕ × Refusal)) (applied : Option (List ℕ))
+      → TakesFirst Fits Fails (tuple ∷ found) (entry ∷ refused) applied → (tuple ≡ entry.0) × FailsSo entry × TakesFirst Fits Fails found refused applied
+  tried_behind entry tuple found refused None takes = (
+    heads_same tuple entry.0 found (tuples_of refused) takes.0,
+    All-head FailsSo entry refused takes.1,
+    (tails_same tuple entry.0 found (tuples_of refused) takes.0, All-tail FailsSo entry refused takes.1),
+  )
+  tried_behind entry tuple found refused (Some last) takes =
+      let rest : List (List ℕ) = tuples_of refused ++ last ∷ takes.0.0 in (
+        heads_same tuple entry.0 found rest takes.0.1,
+        All-head FailsSo entry refused takes.1,
+        ((takes.0.0, tails_same tuple entry.0 found rest takes.0.1), All-tail FailsSo entry refused takes.1, takes.2),
+      )
 
--- one tuple more is tried
-picks_more : (C : Signature) (codes : List OpCode) (r : RuleLists) (rows : RowLists) (tuple : List ℕ) (found : List (List ℕ)) (first : Option Refusal) (others : Tried)
-    → obstruction C codes r tuple rows ≡ first → Picks C codes r rows found others.0 others.1
-    → Picks C codes r rows (tuple ∷ found) (after_try first tuple others).0 (after_try first tuple others).1
-picks_more C codes r rows tuple found None others is picks = ((found, refl), All-nil (HasObstruction C codes r rows), is)
-picks_more C codes r rows tuple found (Some refusal) (refused, None) is picks =
-    (ap (λ more. tuple ∷ more) picks.0, All-cons (HasObstruction C codes r rows) (tuple, refusal) refused is picks.1)
-picks_more C codes r rows tuple found (Some refusal) (refused, Some applied) is picks =
-    ((picks.0.0, ap (λ more. tuple ∷ more) picks.0.1), All-cons (HasObstruction C codes r rows) (tuple, refusal) refused is picks.1, picks.2)
+  -- of a list without tuples none is taken
+  none_taken : (tried : Tried) → TakesFirst Fits Fails [] tried.0 tried.1 → tried ≡ ([], None)
+  none_taken ([], None) takes = refl
+  none_taken (entry ∷ refused, None) takes = absurd (none_is entry.0 (tuples_of refused) takes.0)
+  none_taken ([], Some tuple) takes = absurd (none_is tuple takes.0.0 takes.0.1)
+  none_taken (entry ∷ refused, Some tuple) takes = absurd (none_is entry.0 (tuples_of refused ++ tuple ∷ takes.0.0) takes.0.1)
 
--- what is picked when the tuples are tried is what is picked of the list
-pub picks_tried : (C : Signature) (codes : List OpCode) (r : RuleLists) (rows : RowLists) (found : List (List ℕ))
-    → Picks C codes r rows found (tried (λ tuple. obstruction C codes r tuple rows) found).0 (tried (λ tuple. obstruction C codes r tuple rows) found).1
-picks_tried C codes r rows [] = (refl, All-nil (HasObstruction C codes r rows))
-picks_tried C codes r rows (tuple ∷ found) =
-    picks_more C codes r rows tuple found (obstruction C codes r tuple rows) (tried (λ other. obstruction C codes r other rows) found) refl (picks_tried C codes r rows found)
+  -- the first tuple of a list is taken, or it is refused and others are tried
+  first_tried : (tuple : List ℕ) (found : List (List ℕ)) (tried : Tried) → TakesFirst Fits Fails (tuple ∷ found) tried.0 tried.1
+      → (Fits tuple × (tried ≡ ([], Some tuple)))
+      ⊎ ((refusal : Refusal) × (later : Tried) × Fails tuple refusal × TakesFirst Fits Fails found later.0 later.1 × (tried ≡ after_refused (tuple, refusal) later))
+  first_tried tuple found ([], None) takes = absurd (none_is tuple found (sym takes.0))
+  first_tried tuple found ([], Some last) takes =
+      let same : last ≡ tuple = sym (heads_same tuple last found takes.0.0 takes.0.1) in
+      inl (subst Fits same takes.2, ap (λ (other : List ℕ). ([], Some other)) same)
+  first_tried tuple found (entry ∷ refused, applied) takes =
+      let behind = tried_behind entry tuple found refused applied takes in
+      let same : entry.0 ≡ tuple = sym behind.0 in
+      inr (entry.1, (refused, applied), subst (λ (other : List ℕ). Fails other entry.1) same behind.1, behind.2, ap (λ (other : List ℕ). ((other, entry.1) ∷ refused, applied)) same)
+
+  -- where no tuple of a list both fits and fails, and each fails for one reason, the same are refused and the same is taken
+  pub takes_same : (found : List (List ℕ))
+      → ((tuple : List ℕ) (refusal : Refusal) → Contains found tuple → Fits tuple → Fails tuple refusal → ⊥)
+      → ((tuple : List ℕ) (refusal other : Refusal) → Contains found tuple → Fails tuple refusal → Fails tuple other → refusal ≡ other)
+      → (one other : Tried) → TakesFirst Fits Fails found one.0 one.1 → TakesFirst Fits Fails found other.0 other.1 → one ≡ other
+  takes_same [] never only one other takes also = none_taken one takes ∙ sym (none_taken other also)
+  takes_same (tuple ∷ found) never only one other takes also =
+      let here : Contains (tuple ∷ found) tuple = contains_here tuple found in
+      elim (first_tried tuple found one takes) [
+        | inl (fits, is) ↦
+            elim (first_tried tuple found other also) [
+              | inl (fits_also, is_also) ↦ is ∙ sym is_also
+              | inr (refusal, later, fails, takes_later, is_also) ↦ absurd (never tuple refusal here fits fails)
+            ]
+        | inr (refusal, later, fails, takes_later, is) ↦
+            elim (first_tried tuple found other also) [
+              | inl (fits, is_also) ↦ absurd (never tuple refusal here fits fails)
+              | inr (refusal_also, later_also, fails_also, takes_also, is_also) ↦
+                  let same : refusal ≡ refusal_also = only tuple refusal refusal_also here fails fails_also in
+                  let rest : later ≡ later_also = takes_same found (λ item reason there. never item reason (contains_later tuple found item there))
+                  (λ item reason reason_also there. only item reason reason_also (contains_later tuple found item there)) later later_also takes_later takes_also in
+                  is ∙ ap (λ (reason : Refusal). after_refused (tuple, reason) later) same ∙ ap (after_refused (tuple, refusal_also)) rest ∙ sym is_also
+            ]
+      ]
+
+  -- where each tuple of a list fits or fails, one is taken or all are refused
+  pub takes_some : (found : List (List ℕ)) → ((tuple : List ℕ) → Contains found tuple → Fits tuple ⊎ ((refusal : Refusal) × Fails tuple refusal))
+      → (tried : Tried) × TakesFirst Fits Fails found tried.0 tried.1
+  takes_some [] each = (([], None), (refl, All-nil FailsSo))
+  takes_some (tuple ∷ found) each =
+      elim (each tuple (contains_here tuple found)) [
+        | inl fits ↦ (([], Some tuple), ((found, refl), All-nil FailsSo, fits))
+        | inr (refusal, fails) ↦
+            let later = takes_some found (λ other there. each other (contains_later tuple found other there)) in
+            (((tuple, refusal) ∷ later.0.0, later.0.1), taken_later (tuple, refusal) found later.0.0 later.0.1 fails later.1)
+      ]

@@ -13,3 +13,4 @@ pub mod RunTexts
 pub mod Runners
 pub mod Runs
 pub mod Statuses
+pub mod Verdicts

@@ -21,10 +21,11 @@ ghost use Rattle.rw_print.specs.Lines.{line, check_data};
 use crate::counts::{lengths_of, sizes_of};
 use crate::kept::kept_lists;
 use crate::limits::{pull_back, push_out};
+use crate::listed::Listed;
 use crate::named::{Named, goal_named};
 use crate::runner::run_document;
+use crate::world::columns_of;
 use crate::{Command, Status};
-use rw_columns::Columns;
 use rw_doc::{DocFault, ReadDocEnd};
 use rw_document::{Document, read_document};
 use rw_lists::fresh_list;
@@ -118,8 +119,9 @@ fn list_goal<L: Ledger>(
     requires goal { IsListable (signature_of document.now.schema) (goal_of_parts named.goal.now) }
     ensures { IfOk result (λ answer. text_of_answer answer ≡ listed (document_lists document.now) (Some (record { name = named.entry.name.now; goal = goal_of_parts named.entry.goal.now }))) }
 {
-    let columns = Columns::from_rows(alloc, &document.schema, document.table.rows())?;
-    let tuples = fresh_list(alloc, &document.schema, named.goal, &columns, steps)?;
+    let columns = columns_of(alloc, &document.schema, &document.table)?;
+    let host = Listed::of(&document.schema, &columns);
+    let tuples = fresh_list(alloc, &document.schema, named.goal, &host, steps)?;
     let text = matches_line(alloc, named.name, &tuples)?;
     Ok(Answer {
         status: Status::Done,
@@ -136,7 +138,8 @@ fn check_document<L: Ledger>(
     requires { HasGoals (document_lists document.now) }
     ensures { IfOk result (λ answer. text_of_answer answer ≡ checked (document_lists document.now)) }
 {
-    let kept = kept_lists(alloc, document, &document.table, steps)?;
+    let columns = columns_of(alloc, &document.schema, &document.table)?;
+    let kept = kept_lists(alloc, document, &columns, steps)?;
     count_lists(alloc, &document.schema, &document.table, kept.as_slice())
 }
 

@@ -3,13 +3,14 @@
 ghost use Rattle.std.specs.Prelude.{◌≡◌, ◌++◌, IfOk, OnOk, map};
 ghost use Rattle.std.specs.List.{All};
 ghost use Rattle.rw_schema.specs.Presentation.{signature_of};
-ghost use Rattle.rw_spec.specs.Tabled.{IsOver};
+ghost use Rattle.rw_columns.specs.Kept.{lists_of_columns};
 ghost use Rattle.rw_rule.specs.RuleLists.{RuleLists};
 ghost use Rattle.rw_rule.specs.RuleParts.{goal_of_parts};
 ghost use Rattle.rw_lists.specs.Fresh.{IsListable, fresh_list as fresh_list_of};
 ghost use Rattle.rw_document.specs.Models.{document_lists};
 ghost use Rattle.rw_app.specs.Kept.{HasGoals, lists_in};
 
+use crate::listed::Listed;
 use rw_columns::Columns;
 use rw_delta::Probe;
 use rw_document::Document;
@@ -18,29 +19,27 @@ use rw_pattern::Tuple;
 use rw_rule::{Rule, Watch};
 use rw_schema::{OutOfMemory, Schema};
 use rw_steps::Steps;
-use rw_table::Table;
 use std::alloc::Global;
 use std::sync::ledger::Ledger;
 
-/// The kept lists in an instance over the document's schema: of each rule and then of each watch all its matches. The
-/// instance is put into columns once, for all searches.
+/// The kept lists in an instance over the document's schema: of each rule and then of each watch all its matches.
 pub(crate) fn kept_lists<L: Ledger>(
     alloc: Global,
     document: &Document,
-    table: &Table,
+    columns: &Columns,
     steps: &mut Steps<L>,
 ) -> Result<Vec<Vec<Tuple>>, OutOfMemory>
     requires goals { HasGoals (document_lists document.now) }
-    requires table { IsOver document.now.schema table.now }
-    ensures { IfOk result (λ lists. map (λ list. list.items) lists.items ≡ lists_in (document_lists document.now) table.now.rows) }
+    requires columns { columns.now.signature ≡ signature_of document.now.schema }
+    ensures { IfOk result (λ lists. map (λ list. list.items) lists.items ≡ lists_in (document_lists document.now) (lists_of_columns columns.now)) }
 {
-    let columns = Columns::from_rows(alloc, &document.schema, table.rows())?;
+    let host = Listed::of(&document.schema, columns);
     let mut lists = Vec::new(alloc);
     push_rules(
         alloc,
         &document.schema,
         document.rules.as_slice(),
-        &columns,
+        &host,
         &mut lists,
         steps,
     )?;
@@ -48,7 +47,7 @@ pub(crate) fn kept_lists<L: Ledger>(
         alloc,
         &document.schema,
         document.watches.as_slice(),
-        &columns,
+        &host,
         &mut lists,
         steps,
     )?;

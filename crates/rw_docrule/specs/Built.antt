@@ -2,7 +2,7 @@
 use Rattle.std.specs.Prelude.{Bool, not, ◌&&◌, map, List, Result, Ok}
 use Rattle.std.specs.List.{list_all}
 use Rattle.rw_schema.specs.declared.section.Section.TheVariants.{Whole}
-use Rattle.rw_rule.specs.PlainRules.{is_plain}
+use Rattle.rw_rule.specs.PlainRules.{has_no_conditions, is_dpo}
 use Rattle.rw_rule.specs.RuleLists.{RuleLists}
 use Rattle.rw_doc.specs.declared.fault.DocFault.{DocFault}
 use Rattle.rw_doc.specs.Chain.{checked}
@@ -13,9 +13,13 @@ use Rattle.rw_docrule.specs.Rules.{RuleRead}
 abbrev pub not_built : DocFault
 not_built = fault_of 16 Whole
 
--- steps of the rule are built so far
+-- a double-pushout rule without conditions: steps of such rules are built so far
+abbrev pub is_built_rule : RuleLists → Bool
+is_built_rule rule = is_dpo rule.kind && has_no_conditions rule.goal.conditions
+
+-- what is read is such a rule, and no conditions are written
 abbrev pub is_built : RuleRead → Bool
-is_built read = not read.has_conditions && is_plain read.rule
+is_built read = not read.has_conditions && is_built_rule read.rule
 
 -- the rules, where steps of each are built: code 16
 abbrev pub build_rules : List RuleRead → Result (List RuleLists) DocFault

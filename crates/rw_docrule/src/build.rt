@@ -1,9 +1,8 @@
 //! The rules of a document as they are built.
 
-ghost use Rattle.std.specs.Prelude.{◌≡◌, ◌≤◌, All, IfOk, true, Ok, length, map};
+ghost use Rattle.std.specs.Prelude.{◌≡◌, All, IfOk, true, Ok, length, map};
 ghost use Rattle.rw_schema.specs.Presentation.{signature_of};
 ghost use Rattle.rw_terms.specs.OpEntries.{entries};
-ghost use Rattle.rw_rule.specs.PlainRules.{is_plain as is_plain_rule};
 ghost use Rattle.rw_rule.specs.RuleFaults.{IsRuleOver};
 ghost use Rattle.rw_rule.specs.RuleParts.{rule_of_parts};
 ghost use Rattle.rw_doc.specs.Chain.{checked};
@@ -15,7 +14,7 @@ ghost use Rattle.rw_docrule.specs.Reads.{rule_read};
 
 use crate::RuleRead;
 use rw_doc::{ReadDocEnd, refused_of};
-use rw_rule::{Rule, is_plain};
+use rw_rule::{Rule, RuleKind};
 use rw_schema::{Schema, Section};
 use rw_terms::OpTable;
 use std::alloc::Global;
@@ -30,15 +29,20 @@ pub fn not_built() -> ReadDocEnd
     refused_of(NOT_BUILT, Section::Whole)
 }
 
-/// The rule itself, where its steps are built so far.
-fn plain_rule(rule: Rule) -> Result<Rule, ReadDocEnd>
-    requires images { length rule.keep.sizes ≤ length rule.r }
-    requires monic { length rule.goal.monic ≤ length rule.goal.left.sizes }
-    ensures gives { Gives (λ rule. rule) result (checked spec.not_built (is_plain_rule rule) (Ok rule)) }
-    ensures same { IfOk result (λ found. found ≡ rule) }
-    ensures plain { IfOk result (λ found. is_plain_rule found ≡ true) }
+/// Whether steps of the rule are built so far.
+fn is_built(rule: &Rule) -> bool
+    ensures { result ≡ spec.is_built_rule rule.now }
 {
-    if is_plain(&rule) {
+    matches!(rule.kind(), RuleKind::Dpo) && rule.goal().conditions.is_empty()
+}
+
+/// The rule itself, where its steps are built so far.
+fn built_rule(rule: Rule) -> Result<Rule, ReadDocEnd>
+    ensures gives { Gives (λ rule. rule) result (checked spec.not_built (spec.is_built_rule rule) (Ok rule)) }
+    ensures same { IfOk result (λ found. found ≡ rule) }
+    ensures built { IfOk result (λ found. spec.is_built_rule found ≡ true) }
+{
+    if is_built(&rule) {
         Ok(rule)
     } else {
         Err(not_built())
@@ -55,13 +59,13 @@ fn build_rule(
     requires { IsRuleUnlessCyclic (signature_of schema.now) (length (entries ops.now)) (rule_of_parts read.parts) }
     ensures gives { Gives (λ rule. rule) result (checked spec.not_built (spec.is_built (rule_read read)) (Ok (rule_of_parts read.parts))) }
     ensures over { IfOk result (IsRuleOver (signature_of schema.now) (length (entries ops.now))) }
-    ensures plain { IfOk result (λ rule. is_plain_rule rule ≡ true) }
+    ensures built { IfOk result (λ rule. spec.is_built_rule rule ≡ true) }
 {
     if read.has_conditions {
         return Err(not_built());
     }
     match Rule::of_checked(alloc, schema, read.parts, ops)? {
-        Some(rule) => plain_rule(rule),
+        Some(rule) => built_rule(rule),
         None => Err(not_built()),
     }
 }
@@ -76,7 +80,7 @@ pub fn build_rules(
     requires { All (λ read. IsRuleUnlessCyclic (signature_of schema.now) (length (entries ops.now)) (rule_of_parts read.parts)) reads.items }
     ensures gives { Gives (λ rules. rules.items) result (spec.build_rules (map rule_read reads.items)) }
     ensures over { IfOk result (λ rules. All (IsRuleOver (signature_of schema.now) (length (entries ops.now))) rules.items) }
-    ensures plain { IfOk result (λ rules. All (λ rule. is_plain_rule rule ≡ true) rules.items) }
+    ensures built { IfOk result (λ rules. All (λ rule. spec.is_built_rule rule ≡ true) rules.items) }
     ensures long { IfOk result (λ rules. length rules.items ≡ length reads.items) }
 {
     let mut rules = Vec::new(alloc);

@@ -17,7 +17,7 @@ use Rattle.rw_docrule.specs.Built.{is_built, not_built}
 use Rattle.rw_docrule.specs.Rules.{RuleRead, names_of_rules, read_rules}
 use Rattle.rw_docwatch.specs.Watches.{read_watches}
 use Rattle.rw_document.specs.DocumentCodes.{FirstDocumentFault, IsFirstSection, IsNotBuilt, OfSchema, OfValue, no_section, section_row}
-use Rattle.rw_document.specs.Documents.{Ends, Goals, build_all, cospan_or_none, document_with, has_more, instance_or_none, read_ends, read_goals, read_json, read_over, read_value, schema_in, span_or_none}
+use Rattle.rw_document.specs.Documents.{Ends, Goals, allows_blanks, build_all, cospan_or_none, document_with, has_more, instance_or_none, read_ends, read_goals, read_json, read_over, read_value, schema_in, span_or_none}
 use Rattle.rw_doc.specs.Entries.{Tells}
 
 -- what a reading tells of its sections
@@ -80,13 +80,15 @@ not_both (Ok y) x fault is fails = cc
 not_both (Err other) x fault is fails = cc
 
 -- the fault of an instance that is written
-instance_fails : (C : Signature) (found : Option Data) (fault : DocFault) → instance_or_none C found ≡ Err fault → IsSomeAnd found (λ value. read_instance C false value ≡ Err fault)
-instance_fails C None fault is = cc
-instance_fails C (Some value) fault is = is
+instance_fails : (C : Signature) (blanks : Bool) (found : Option Data) (fault : DocFault) → instance_or_none C blanks found ≡ Err fault
+    → IsSomeAnd found (λ value. read_instance C blanks value ≡ Err fault)
+instance_fails C blanks None fault is = cc
+instance_fails C blanks (Some value) fault is = is
 
-fails_instance : (C : Signature) (found : Option Data) (fault : DocFault) → IsSomeAnd found (λ value. read_instance C false value ≡ Err fault) → instance_or_none C found ≡ Err fault
-fails_instance C None fault has = absurd has
-fails_instance C (Some value) fault has = has
+fails_instance : (C : Signature) (blanks : Bool) (found : Option Data) (fault : DocFault) → IsSomeAnd found (λ value. read_instance C blanks value ≡ Err fault)
+    → instance_or_none C blanks found ≡ Err fault
+fails_instance C blanks None fault has = absurd has
+fails_instance C blanks (Some value) fault has = has
 
 -- a reading fails where what it is of fails
 part_fails : {A B : Type 0} (reading : Result A DocFault) (f : A → B) (fault : DocFault) → and_then reading (λ x. Ok (f x)) ≡ Err fault → reading ≡ Err fault
@@ -139,7 +141,7 @@ all_built false rules lists built is (inr has) = of_rules (list_all is_built rul
 module _ (ops : List OpEntry) (bytes : List ℕ) where
   -- the tables of the sections that are left, from the last one
   abbrev Has3 : DocFault → Type 0
-  Has3 fault = OfSchema bytes (λ value schema. IsSomeAnd (get (codes "instance") value) (λ instance. read_instance (signature_of schema) false instance ≡ Err fault))
+  Has3 fault = OfSchema bytes (λ value schema. IsSomeAnd (get (codes "instance") value) (λ instance. read_instance (signature_of schema) (allows_blanks value) instance ≡ Err fault))
 
   abbrev Has4 : DocFault → Type 0
   Has4 fault = OfSchema bytes (λ value schema. read_rules schema ops (get (codes "rules") value) ≡ Err fault)
@@ -262,10 +264,11 @@ module _ (ops : List OpEntry) (bytes : List ℕ) where
     over_tells : TellsSection From3 (read_over schema ops value)
     over_tells =
         let C : Signature = signature_of schema in
-        let IsInstanceFault : DocFault → Data → Presentation → Type 0 = λ fault value schema. IsSomeAnd (get (codes "instance") value) (λ instance. read_instance (signature_of schema) false instance ≡ Err fault) in
-        section_then 3 Has3 From4 (instance_or_none C (get (codes "instance") value)) _ order4
-        (λ fault fails. with_schema (IsInstanceFault fault) (instance_fails C (get (codes "instance") value) fault fails))
-        (λ table is fault has. not_both (instance_or_none C (get (codes "instance") value)) table fault is (fails_instance C (get (codes "instance") value) fault (of_schema (IsInstanceFault fault) has)))
+        let blanks : Bool = allows_blanks value in
+        let IsInstanceFault : DocFault → Data → Presentation → Type 0 = λ fault value schema. IsSomeAnd (get (codes "instance") value) (λ instance. read_instance (signature_of schema) (allows_blanks value) instance ≡ Err fault) in
+        section_then 3 Has3 From4 (instance_or_none C blanks (get (codes "instance") value)) _ order4
+        (λ fault fails. with_schema (IsInstanceFault fault) (instance_fails C blanks (get (codes "instance") value) fault fails))
+        (λ table is fault has. not_both (instance_or_none C blanks (get (codes "instance") value)) table fault is (fails_instance C blanks (get (codes "instance") value) fault (of_schema (IsInstanceFault fault) has)))
         (λ table is_table. in_turn From4 (read_goals schema ops value) _ (λ others. Ok (document_with schema table others))
         (goals_tell _ (λ rules watches are_rules. in_turn From6 (read_ends C value) _ (λ others. Ok (document_with schema table others))
         (ends_tell _ (λ ends. in_turn From8 (build_all value rules) (λ built. Ok (record { rules = built; watches = watches; ends = ends })) (λ others. Ok (document_with schema table others))

@@ -1,8 +1,10 @@
 -- Documents and rules, and what they say.
-use Rattle.std.proofs.Common.{◌≡◌, ℕ, Bool, true, false, Some, None, Ok, Err, List, [], ◌∷◌, codes, refl}
-use Rattle.serde_json.specs.Data.{Data, number, unsigned, string, array, object, no_members, member}
+use Rattle.std.proofs.Common.{◌≡◌, ℕ, pos, Bool, true, false, Some, None, Ok, Err, List, [], ◌∷◌, codes, refl}
+use Rattle.serde_json.specs.Data.{Data, null, number, unsigned, string, array, object, no_members, member}
 use Rattle.serde_json.specs.View.{items_of}
-use Rattle.rw_schema.specs.declared.section.Section.TheVariants.{Whole, Rules, Watches}
+use Rattle.rw_schema.specs.declared.atom.Atom.TheVariants as atoms
+use Rattle.rw_schema.specs.declared.atom.Kind.TheVariants as kinds
+use Rattle.rw_schema.specs.declared.section.Section.TheVariants.{Cells, Whole, Rules, Watches}
 use Rattle.rw_schema.specs.Presentation.{Presentation, signature_of}
 use Rattle.rw_schema.specs.RowLists.{RowLists}
 use Rattle.rw_pattern.specs.PatternLists.{PatternLists, holders_in}
@@ -36,9 +38,9 @@ edge source target = object (member (codes "parts") (list (count 2 ∷ count 1 �
 abbrev vertices : ℕ → Data
 vertices n = object (member (codes "parts") (list (count n ∷ count 0 ∷ [])) (member (codes "rows") (list (list [] ∷ list [] ∷ [])) no_members))
 
--- so many vertices are matched, and removed; the vertices are monic where they are listed
-abbrev removal : ℕ → List Data → Data
-removal n listed = object (member (codes "keep") (vertices 0) (member (codes "kind") (string (codes "dpo"))
+-- so many vertices are matched, and removed, by a rule of this kind; the vertices are monic where they are listed
+abbrev removal : List ℕ → ℕ → List Data → Data
+removal kind n listed = object (member (codes "keep") (vertices 0) (member (codes "kind") (string kind)
     (member (codes "l") (list (list [] ∷ list [] ∷ [])) (member (codes "left") (vertices n) (member (codes "monic") (list listed)
     (member (codes "name") (string (codes "remove")) (member (codes "r") (list (list [] ∷ list [] ∷ [])) (member (codes "right") (vertices 0) no_members))))))))
 
@@ -69,11 +71,11 @@ graph_rows = record {
 abbrev graph_pattern : List ℕ → List (List ℕ) → PatternLists
 graph_pattern sizes rows = record { sizes = sizes; rows = rows; cells = []; holders = holders_in (signature_of graph_schema) }
 
-abbrev graph_lists : DocumentLists
-graph_lists = record {
+abbrev graph_lists : List RuleLists → DocumentLists
+graph_lists rules = record {
   schema = graph_schema;
   table = record { signature = signature_of graph_schema; rows = graph_rows };
-  rules = [];
+  rules = rules;
   watches = record {
     name = codes "edge";
     goal = record { left = graph_pattern (2 ∷ 1 ∷ []) ((0 ∷ []) ∷ (1 ∷ []) ∷ []); monic = false ∷ false ∷ []; conditions = []; kinds = [] };
@@ -99,25 +101,66 @@ removal_lists n monic = record {
 }
 
 -- the graph is read as it is written
-reads_a_graph : read_value [] (document 1 [] (codes "edge")) ≡ Ok graph_lists
+reads_a_graph : read_value [] (document 1 [] (codes "edge")) ≡ Ok (graph_lists [])
 reads_a_graph = refl
 
+-- in format 2 it is the same
+reads_format_2 : read_value [] (document 2 [] (codes "edge")) ≡ Ok (graph_lists [])
+reads_format_2 = refl
+
 -- another format is not read
-refuses_format_2 : read_value [] (document 2 [] (codes "edge")) ≡ Err (fault_of 3 Whole)
-refuses_format_2 = refl
+refuses_format_3 : read_value [] (document 3 [] (codes "edge")) ≡ Err (fault_of 3 Whole)
+refuses_format_3 = refl
+
+-- two points with a number, of which the first is not known
+abbrev numbered : ℕ → Data
+numbered format = object (member (codes "format") (count format)
+    (member (codes "instance") (object (member (codes "cells") (list (list (null ∷ count 3 ∷ []) ∷ []))
+    (member (codes "parts") (list (count 2 ∷ [])) (member (codes "rows") (list []) no_members))))
+    (member (codes "schema") (object (member (codes "arrows") (list [])
+    (member (codes "attributes") (list (list (string (codes "w") ∷ string (codes "P") ∷ string (codes "int") ∷ []) ∷ []))
+    (member (codes "objects") (list (string (codes "P") ∷ [])) no_members)))) no_members)))
+
+abbrev point_schema : Presentation
+point_schema = record { objects = codes "P" ∷ []; arrows = []; attributes = record { name = codes "w"; object = record { 0 = 0 }; kind = kinds.Int } ∷ []; equations = [] }
+
+abbrev numbered_lists : DocumentLists
+numbered_lists = record {
+  schema = point_schema;
+  table = record {
+    signature = signature_of point_schema;
+    rows = record { names = (0 ∷ 1 ∷ []) ∷ []; arrows = []; cells = (None ∷ Some (atoms.Int (pos 3)) ∷ []) ∷ []; next = 2 ∷ [] };
+  };
+  rules = [];
+  watches = [];
+  span = None;
+  cospan = None;
+}
+
+-- in format 1 a cell may not be blank
+refuses_a_blank : read_value [] (numbered 1) ≡ Err (fault_at 9 Cells 0 0)
+refuses_a_blank = refl
+
+-- in format 2 it may
+reads_a_blank : read_value [] (numbered 2) ≡ Ok numbered_lists
+reads_a_blank = refl
 
 -- the rule that removes two different vertices is read as it is written
-reads_a_rule : read_rule graph_schema [] [] (removal 2 (string (codes "V") ∷ [])) ≡ Ok (record { rule = removal_lists 2 true; has_conditions = false })
+reads_a_rule : read_rule graph_schema [] [] (removal (codes "dpo") 2 (string (codes "V") ∷ [])) ≡ Ok (record { rule = removal_lists 2 true; has_conditions = false })
 reads_a_rule = refl
 
 -- the second rule may not have the name of the first
-refuses_a_name_twice : read_rules graph_schema [] (Some (list (removal 1 [] ∷ removal 1 [] ∷ []))) ≡ Err (fault_at 5 Rules 1 0)
+refuses_a_name_twice : read_rules graph_schema [] (Some (list (removal (codes "dpo") 1 [] ∷ removal (codes "dpo") 1 [] ∷ []))) ≡ Err (fault_at 5 Rules 1 0)
 refuses_a_name_twice = refl
 
--- steps of a rule that may remove one vertex twice are not built
-refuses_two_vertices : read_value [] (document 1 (removal 2 [] ∷ []) (codes "edge")) ≡ Err not_built
-refuses_two_vertices = refl
+-- so is one in a document that may match one vertex twice
+reads_two_vertices : read_value [] (document 1 (removal (codes "dpo") 2 [] ∷ []) (codes "edge")) ≡ Ok (graph_lists (removal_lists 2 false ∷ []))
+reads_two_vertices = refl
+
+-- steps of a rule of another kind are not built
+refuses_another_kind : read_value [] (document 1 (removal (codes "spo") 1 [] ∷ []) (codes "edge")) ≡ Err not_built
+refuses_another_kind = refl
 
 -- a fault of a watch comes before
-refuses_the_watch_first : read_value [] (document 1 (removal 2 [] ∷ []) (codes "remove")) ≡ Err (fault_at 5 Watches 0 0)
+refuses_the_watch_first : read_value [] (document 1 (removal (codes "spo") 1 [] ∷ []) (codes "remove")) ≡ Err (fault_at 5 Watches 0 0)
 refuses_the_watch_first = refl

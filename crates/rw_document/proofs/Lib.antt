@@ -1,3 +1,4 @@
 mod DocumentCodes
 mod Examples
+mod Formats
 mod SoundTable

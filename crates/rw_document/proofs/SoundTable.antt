@@ -1,5 +1,5 @@
 -- The table of a document that is read is over the schema.
-use Rattle.std.proofs.Common.{◌≡◌, Bool, false, Option, Some, None, Result, Ok, Err, IfOk, codes, refl}
+use Rattle.std.proofs.Common.{◌≡◌, Bool, Option, Some, None, Result, Ok, Err, IfOk, codes, refl}
 use Rattle.serde_json.specs.Data.{Data}
 use Rattle.serde_json.specs.Find.{get}
 use Rattle.rw_schema.specs.declared.section.Section.TheVariants.{Instance}
@@ -39,11 +39,12 @@ instance_over C blanks value =
     (λ cells are. unfaulted_over C (rows_of parts arrows cells) (first_failure C (instance_of C (rows_of parts arrows cells)))))))))
 
 -- the instance that is read is over the signature
-pub any_instance_over : (C : Signature) (value : Option Data) (table : Tabled) → instance_or_none C value ≡ Ok table → IsTableOver C table
-any_instance_over C None table is = let same : empty_instance C ≡ table = cc in rw (← same) refl
-any_instance_over C (Some value) table is = instance_over C false value table is
+pub any_instance_over : (C : Signature) (blanks : Bool) (value : Option Data) (table : Tabled) → instance_or_none C blanks value ≡ Ok table → IsTableOver C table
+any_instance_over C blanks None table is = let same : empty_instance C ≡ table = cc in rw (← same) refl
+any_instance_over C blanks (Some value) table is = instance_over C blanks value table is
 
 -- so is what a reading answers
-pub result_over : (C : Signature) (value : Option Data) (result : Result Tabled ReadDocEnd) → Gives (λ table. table) result (instance_or_none C value) → IfOk result (IsTableOver C)
-result_over C value (Ok table) gives = any_instance_over C value table gives
-result_over C value (Err end) gives = tt
+pub result_over : (C : Signature) (blanks : Bool) (value : Option Data) (result : Result Tabled ReadDocEnd) → Gives (λ table. table) result (instance_or_none C blanks value)
+    → IfOk result (IsTableOver C)
+result_over C blanks value (Ok table) gives = any_instance_over C blanks value table gives
+result_over C blanks value (Err end) gives = tt

@@ -13,7 +13,7 @@ use Rattle.rw_docspan.specs.Spans.{read_cospan, read_span}
 use Rattle.rw_docrule.specs.Built.{is_built, not_built}
 use Rattle.rw_docrule.specs.Rules.{names_of_rules, read_rules}
 use Rattle.rw_docwatch.specs.Watches.{read_watches}
-use Rattle.rw_document.specs.Documents.{has_more, read_document, read_json, schema_in}
+use Rattle.rw_document.specs.Documents.{allows_blanks, has_more, read_document, read_json, schema_in}
 
 -- a section with its fault, above the sections that come later
 abbrev pub section_row : ℕ → (DocFault → Type 0) → (ℕ → DocFault → Type 0) → ℕ → DocFault → Type 0
@@ -42,7 +42,7 @@ DocumentHas ops bytes =
     section_row 0 (λ fault. read_json bytes ≡ Err fault)
     (section_row 1 (λ fault. OfValue bytes (λ value. schema_in value ≡ Err fault))
     (section_row 2 (λ fault. OfValue bytes (λ value. IsOkAnd (schema_in value) (λ written. read_schema written ≡ Err fault)))
-    (section_row 3 (λ fault. OfSchema bytes (λ value schema. IsSomeAnd (get (codes "instance") value) (λ instance. read_instance (signature_of schema) false instance ≡ Err fault)))
+    (section_row 3 (λ fault. OfSchema bytes (λ value schema. IsSomeAnd (get (codes "instance") value) (λ instance. read_instance (signature_of schema) (allows_blanks value) instance ≡ Err fault)))
     (section_row 4 (λ fault. OfSchema bytes (λ value schema. read_rules schema ops (get (codes "rules") value) ≡ Err fault))
     (section_row 5 (λ fault. OfSchema bytes (λ value schema. IsOkAnd (read_rules schema ops (get (codes "rules") value))
     (λ rules. read_watches schema (names_of_rules rules) (get (codes "watches") value) ≡ Err fault)))

@@ -1,6 +1,6 @@
 -- The model of a document, or its first fault, over the JSON value that its bytes are. The sections are read in the order in
 -- which they stand here.
-use Rattle.std.specs.Prelude.{◌==◌, ℕ, Bool, false, not, is_some, codes, List, [], ◌∷◌, Option, Some, None, Result, Ok, Err, if◌then◌else◌}
+use Rattle.std.specs.Prelude.{◌==◌, ◌||◌, ℕ, Bool, false, not, is_some, codes, List, [], ◌∷◌, Option, Some, None, option_and_then, option_map, unwrap_or, Result, Ok, Err, if◌then◌else◌}
 use Rattle.std.specs.Str.{is_utf8}
 use Rattle.serde_json.specs.Data.{Data}
 use Rattle.serde_json.specs.Find.{get}
@@ -28,11 +28,11 @@ use Rattle.rw_document.specs.Models.{DocumentLists}
 abbrev pub document_keys : List (List ℕ)
 document_keys = codes "cospan" ∷ codes "format" ∷ codes "instance" ∷ codes "rules" ∷ codes "schedule" ∷ codes "schema" ∷ codes "span" ∷ codes "watches" ∷ []
 
--- the format is a count, and it is 1
+-- the format is a count, and it is 1 or 2
 abbrev pub read_format : Data → Result ℕ DocFault
-read_format value = and_then (some_or (fault_of 2 Whole) (as_count value)) (λ number. checked (fault_of 3 Whole) (number == 1) (Ok number))
+read_format value = and_then (some_or (fault_of 2 Whole) (as_count value)) (λ number. checked (fault_of 3 Whole) (number == 1 || number == 2) (Ok number))
 
--- what is written of the schema, where the object has no other keys than these, and its format is 1
+-- what is written of the schema, where the object has no other keys than these, and its format is 1 or 2
 abbrev pub schema_in : Data → Result Data DocFault
 schema_in value = checked (fault_of 2 Whole) (has_only document_keys value)
     (and_then (some_or (fault_of 2 Whole) (get (codes "schema") value)) (λ schema.
@@ -41,10 +41,14 @@ schema_in value = checked (fault_of 2 Whole) (has_only document_keys value)
 
 -- ---- the instance
 
--- where no instance is written, no object has a part
-abbrev pub instance_or_none : Signature → Option Data → Result Tabled DocFault
-instance_or_none C None = Ok (empty_instance C)
-instance_or_none C (Some value) = read_instance C false value
+-- cells of the instance may be blank in format 2
+abbrev pub allows_blanks : Data → Bool
+allows_blanks value = unwrap_or (option_map (λ number. number == 2) (option_and_then as_count (get (codes "format") value))) false
+
+-- where no instance is written, no object has a part; it is said whether cells may be blank
+abbrev pub instance_or_none : Signature → Bool → Option Data → Result Tabled DocFault
+instance_or_none C blanks None = Ok (empty_instance C)
+instance_or_none C blanks (Some value) = read_instance C blanks value
 
 -- ---- rules and watches
 
@@ -124,7 +128,7 @@ document_with schema table others = record {
 -- the document over this schema
 abbrev pub read_over : Presentation → List OpEntry → Data → Result DocumentLists DocFault
 read_over schema ops value =
-    and_then (instance_or_none (signature_of schema) (get (codes "instance") value)) (λ table.
+    and_then (instance_or_none (signature_of schema) (allows_blanks value) (get (codes "instance") value)) (λ table.
     and_then (read_others schema ops value) (λ others. Ok (document_with schema table others)))
 
 -- the document that a JSON value is

@@ -3,10 +3,10 @@ use Rattle.std.specs.Prelude.{◌≡◌, ◌≤◌, ℕ, true, List, [], map, le
 use Rattle.std.specs.List.{All}
 use Rattle.rw_schema.specs.Presentation.{Presentation, signature_of}
 use Rattle.rw_spec.specs.Tabled.{Tabled, IsOver}
-use Rattle.rw_rule.specs.PlainRules.{is_plain}
 use Rattle.rw_rule.specs.RuleFaults.{IsGoalOver, IsRuleOver}
 use Rattle.rw_rule.specs.RuleLists.{RuleLists, WatchLists}
 use Rattle.rw_rule.specs.RuleParts.{lists_of_watch}
+use Rattle.rw_docrule.specs.Built.{is_built_rule}
 use Rattle.rw_docspan.specs.Spans.{SpanLists, CospanLists, IsSpanOver, IsCospanOver}
 use Rattle.rw_docspan.specs.Views.{span_lists, cospan_lists}
 use Rattle.rw_document.specs.declared.document.Document.{Document}
@@ -35,7 +35,7 @@ document_lists document = record {
 pub record IsSound (ops : ℕ) (document : DocumentLists) : Type 0 where
   pub table : IsOver document.schema document.table
   pub rules : All (IsRuleOver (signature_of document.schema) ops) document.rules
-  pub plain : All (λ rule. is_plain rule ≡ true) document.rules
+  pub built : All (λ rule. is_built_rule rule ≡ true) document.rules
   pub watches : All (λ (watch : WatchLists). IsGoalOver (signature_of document.schema) watch.goal) document.watches
   pub free : All (λ (watch : WatchLists). watch.goal.conditions ≡ []) document.watches
   pub few_rules : length document.rules ≤ 256

@@ -2,9 +2,9 @@
 use Rattle.std.specs.Prelude.{◌≡◌, ◌≤◌, ℕ, true, length, map, option_map, IfSome}
 use Rattle.std.specs.List.{All}
 use Rattle.rw_schema.specs.Signature.{Signature}
-use Rattle.rw_rule.specs.PlainRules.{is_plain}
 use Rattle.rw_rule.specs.RuleFaults.{IsRuleOver}
 use Rattle.rw_rule.specs.RuleParts.{lists_of_watch}
+use Rattle.rw_docrule.specs.Built.{is_built_rule}
 use Rattle.rw_docrule.specs.Reads.{rule_read}
 use Rattle.rw_docspan.specs.Spans.{IsCospanOver, IsSpanOver}
 use Rattle.rw_docspan.specs.Views.{cospan_lists, span_lists}
@@ -26,7 +26,7 @@ others_read others = record { rules = others.rules.items; watches = map lists_of
 -- the rules, the watches, the span and the cospan are over the signature, and steps of each rule are built so far
 pub record AreOthersOver (C : Signature) (ops : ℕ) (others : Others) : Type 0 where
   pub rules : All (IsRuleOver C ops) others.rules
-  pub plain : All (λ rule. is_plain rule ≡ true) others.rules
+  pub built : All (λ rule. is_built_rule rule ≡ true) others.rules
   pub watches : All (IsWatchRead C) others.watches
   pub few_rules : length others.rules ≤ 256
   pub few_watches : length others.watches ≤ 64

@@ -9,5 +9,5 @@ mod read;
 mod values;
 
 pub use document::Document;
-pub use laws::documents_tell_first;
+pub use laws::{documents_tell_first, formats_agree};
 pub use read::read_document;

@@ -1,14 +1,14 @@
 //! Documents from their bytes.
 
-ghost use Rattle.std.specs.Prelude.{◌≡◌, ◌<◌, ◌≤◌, ◌^◌, All, IfOk, length, map, option_map, true};
+ghost use Rattle.std.specs.Prelude.{◌≡◌, ◌<◌, ◌^◌, All, IfOk, length, map, option_map, true};
 ghost use Rattle.serde_json.specs.View.{view};
 ghost use Rattle.rw_schema.specs.Presentation.{signature_of};
 ghost use Rattle.rw_spec.specs.Tabled.{IsOver};
 ghost use Rattle.rw_terms.specs.OpEntries.{entries};
-ghost use Rattle.rw_rule.specs.PlainRules.{is_plain};
 ghost use Rattle.rw_rule.specs.RuleFaults.{IsRuleOver};
 ghost use Rattle.rw_rule.specs.RuleParts.{rule_of_parts};
 ghost use Rattle.rw_doc.specs.Gives.{Gives};
+ghost use Rattle.rw_docrule.specs.Built.{is_built_rule};
 ghost use Rattle.rw_docrule.specs.Known.{IsRuleUnlessCyclic};
 ghost use Rattle.rw_docrule.specs.Reads.{rule_read};
 ghost use Rattle.rw_document.specs.Documents as spec;
@@ -18,7 +18,7 @@ ghost use Rattle.rw_document.specs.Views.{AreOthersOver, others_read};
 use crate::Document;
 use crate::ends::{Ends, read_ends};
 use crate::goals::read_goals;
-use crate::values::{read_json, schema_in};
+use crate::values::{allows_blanks, read_json, schema_in};
 use rw_doc::{ReadDocEnd, empty_instance, read_instance, read_schema};
 use rw_docrule::{RuleRead, build_rules, not_built};
 use rw_rule::{Rule, Watch};
@@ -36,17 +36,18 @@ struct Others {
     ends: Ends,
 }
 
-/// The instance that is written, or one without parts.
+/// The instance that is written, or one without parts. It is said whether a cell may be blank.
 fn instance_or_none(
     alloc: Global,
     schema: &Schema,
+    blanks: bool,
     value: Option<&Value>,
 ) -> Result<Table, ReadDocEnd>
-    ensures gives { Gives (λ table. table) result (spec.instance_or_none (signature_of schema.now) (option_map (λ value. view value.now) value.entry)) }
+    ensures gives { Gives (λ table. table) result (spec.instance_or_none (signature_of schema.now) blanks (option_map (λ value. view value.now) value.entry)) }
     ensures over { IfOk result (IsOver schema.now) }
 {
     match value {
-        Some(value) => read_instance(alloc, value, schema, false),
+        Some(value) => read_instance(alloc, value, schema, blanks),
         None => Ok(empty_instance(alloc, schema)?),
     }
 }
@@ -69,7 +70,7 @@ fn build_all(
     requires { All (λ read. IsRuleUnlessCyclic (signature_of schema.now) (length (entries ops.now)) (rule_of_parts read.parts)) rules.items }
     ensures gives { Gives (λ rules. rules.items) result (spec.build_all (view value.now) (map rule_read rules.items)) }
     ensures over { IfOk result (λ rules. All (IsRuleOver (signature_of schema.now) (length (entries ops.now))) rules.items) }
-    ensures plain { IfOk result (λ rules. All (λ rule. is_plain rule ≡ true) rules.items) }
+    ensures built { IfOk result (λ rules. All (λ rule. is_built_rule rule ≡ true) rules.items) }
     ensures long { IfOk result (λ found. length found.items ≡ length rules.items) }
 {
     if has_more(value) {
@@ -110,7 +111,8 @@ fn read_over(
     ensures gives { Gives document_lists result (spec.read_over schema (entries ops.now) (view value.now)) }
     ensures sound { IfOk result (λ document. IsSound (length (entries ops.now)) (document_lists document)) }
 {
-    let table = instance_or_none(alloc, &schema, value.get("instance"))?;
+    let blanks = allows_blanks(value);
+    let table = instance_or_none(alloc, &schema, blanks, value.get("instance"))?;
     let others = read_others(alloc, &schema, ops, value)?;
     Ok(Document {
         schema,
@@ -138,9 +140,8 @@ fn read_value(alloc: Global, ops: &OpTable, value: &Value) -> Result<Document, R
 /// numbers in the rules.
 ///
 /// docs/FORMAT.md lists the faults. What is not built yet is code 16, where the document has no other fault: a section
-/// that is not read, a rule with conditions, of another kind than double pushout, whose map to the right is not
-/// injective, or with a match that is not. Want of memory may end a reading at any bytes. The time and the memory are
-/// linear in the bytes and the counts of parts, the time up to a logarithm.
+/// that is not read, or a rule with conditions or of another kind than double pushout. Want of memory may end a reading at
+/// any bytes. The time and the memory are linear in the bytes and the counts of parts, the time up to a logarithm.
 pub fn read_document(alloc: Global, bytes: &[u8], ops: &OpTable) -> Result<Document, ReadDocEnd>
     requires { length (entries ops.now) < 2 ^ 32 }
     ensures gives { Gives document_lists result (spec.read_document (entries ops.now) bytes.now) }

@@ -17,8 +17,11 @@ use serde_json::Value;
 use std::alloc::Global;
 use std::str;
 
-/// The format that is read.
-const FORMAT: u64 = 1;
+/// The format without blank cells.
+const FULL: u64 = 1;
+
+/// The format in which cells of the instance may be blank.
+const WITH_BLANKS: u64 = 2;
 
 /// The keys of a document.
 const KEYS: [&str; 8] = [
@@ -48,19 +51,19 @@ fn member<'v>(key: &str, value: &'v Value) -> Result<&'v Value, ReadDocEnd>
     value.get(key).ok_or(refused(NOT_FORM))
 }
 
-/// The format, where it is the one that is read.
+/// The format, where it is one that is read.
 fn read_format(value: &Value) -> Result<u64, ReadDocEnd>
     ensures { Gives (λ number. number) result (spec.read_format (view value.now)) }
 {
     let number = count_of(value).ok_or(refused(NOT_FORM))?;
-    if number == FORMAT {
+    if number == FULL || number == WITH_BLANKS {
         Ok(number)
     } else {
         Err(refused(OTHER_FORMAT))
     }
 }
 
-/// What is written of the schema, in a document whose own keys and whose format are those that are read.
+/// What is written of the schema, in a document whose own keys are known and whose format is read.
 pub(crate) fn schema_in(value: &Value) -> Result<&Value, ReadDocEnd>
     ensures { Gives (λ member. view member.now) result (spec.schema_in (view value.now)) }
 {
@@ -71,6 +74,19 @@ pub(crate) fn schema_in(value: &Value) -> Result<&Value, ReadDocEnd>
     let format = member("format", value)?;
     read_format(format)?;
     Ok(schema)
+}
+
+/// Whether cells of the instance may be blank.
+pub(crate) fn allows_blanks(value: &Value) -> bool
+    ensures { result ≡ spec.allows_blanks (view value.now) }
+{
+    let Some(format) = value.get("format") else {
+        return false;
+    };
+    match count_of(format) {
+        Some(number) => number == WITH_BLANKS,
+        None => false,
+    }
 }
 
 /// The JSON value that a text is.

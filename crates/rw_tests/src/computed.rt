@@ -10,6 +10,13 @@ const COUNTERS: &str =
 "rules":[{"name":"inc","kind":"dpo","left":{"parts":[1],"rows":[],"cells":[["w",0,{"var":"x"}]]},"keep":{"parts":[1],"rows":[]},
 "right":{"parts":[1],"rows":[],"cells":[["w",0,{"op":"add","args":[{"var":"x"},1]}]]},"l":[[0]],"r":[[0]]}]}"#;
 
+/// Two counters, of which the first is blank, and the same rule.
+const BLANK_COUNTER: &str =
+    r#"{"format":2,"schema":{"objects":["V"],"arrows":[],"attributes":[["w","V","int"]]},
+"instance":{"parts":[2],"rows":[],"cells":[[null,3]]},
+"rules":[{"name":"inc","kind":"dpo","left":{"parts":[1],"rows":[],"cells":[["w",0,{"var":"x"}]]},"keep":{"parts":[1],"rows":[]},
+"right":{"parts":[1],"rows":[],"cells":[["w",0,{"op":"add","args":[{"var":"x"},1]}]]},"l":[[0]],"r":[[0]]}]}"#;
+
 /// Two elements, a rule that swaps their numbers and keeps their texts, and the elements with the number 5 and the text b.
 const SWAPPED: &str =
     r#"{"format":1,"schema":{"objects":["V"],"arrows":[],"attributes":[["w","V","int"],["t","V","text"]]},
@@ -58,7 +65,7 @@ const NO_VALUES: &str = r#"
 {"op":"rem","args":[1,0]} => "no_value""#;
 
 /// Runs by rules that compute.
-pub(crate) const COMPUTED: [Example; 4] = [
+pub(crate) const COMPUTED: [Example; 5] = [
     Example {
         words: &["run", "--fuel", "1"],
         document: OPERATIONS,
@@ -74,6 +81,14 @@ pub(crate) const COMPUTED: [Example; 4] = [
         printed: r#"{"box":0,"lists":[],"match":[0],"refused":[],"rule":"inc"}
 {"box":0,"lists":[],"match":[0],"refused":[],"rule":"inc"}
 {"end":"spent","fuel":0,"lists":[2],"sizes":[2]}
+"#,
+    },
+    Example {
+        words: &["run", "--fuel", "1"],
+        document: BLANK_COUNTER,
+        status: 4,
+        printed: r#"{"box":0,"lists":[],"match":[1],"refused":[],"rule":"inc"}
+{"end":"spent","fuel":0,"lists":[1],"sizes":[2]}
 "#,
     },
     Example {

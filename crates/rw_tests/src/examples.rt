@@ -362,8 +362,90 @@ const PRODUCT: Example = Example {
 "#,
 };
 
+/// A rule that removes an edge and merges its ends.
+const CONTRACTION: Example = Example {
+    words: &["run"],
+    document: r#"{"format": 1,
+ "schema": {"objects": ["V", "E"], "arrows": [["src", "E", "V"], ["tgt", "E", "V"]]},
+ "instance": {"parts": [3, 3], "rows": [[0, 1, 2], [1, 2, 0]]},
+ "rules": [{"name": "contract", "kind": "dpo",
+  "left": {"parts": [2, 1], "rows": [[0], [1]]},
+  "keep": {"parts": [2, 0], "rows": [[], []]},
+  "right": {"parts": [1, 0], "rows": [[], []]},
+  "l": [[0, 1], []], "r": [[0, 0], []]}]}
+"#,
+    status: 0,
+    printed: r#"{"box":0,"lists":[[0,[[0,1,0],[1,2,1]],[[0,2,1]]]],"match":[0,1,0],"refused":[],"rule":"contract"}
+{"box":0,"lists":[[0,[[0,2,1],[2,0,2]],[[0,0,2]]]],"match":[0,2,1],"refused":[],"rule":"contract"}
+{"box":0,"lists":[[0,[[0,0,2]],[]]],"match":[0,0,2],"refused":[],"rule":"contract"}
+{"box":0,"lists":[],"match":null,"refused":[],"rule":"contract"}
+{"end":"done","fuel":996,"lists":[0],"sizes":[1,0]}
+"#,
+};
+
+/// A rule whose left parts may not be one, since one of them goes.
+const PAIRS: Example = Example {
+    words: &["run"],
+    document: r#"{"format": 1,
+ "schema": {"objects": ["Person"], "arrows": []},
+ "instance": {"parts": [2], "rows": []},
+ "rules": [{"name": "replace", "kind": "dpo",
+  "left": {"parts": [2], "rows": []},
+  "keep": {"parts": [1], "rows": []},
+  "right": {"parts": [1], "rows": []},
+  "l": [[0]], "r": [[0]]}]}
+"#,
+    status: 0,
+    printed: r#"{"box":0,"lists":[[0,[[0,1],[1,0],[1,1]],[]]],"match":[0,1],"refused":[[[0,0],["identification","Person",0,1]]],"rule":"replace"}
+{"box":0,"lists":[],"match":null,"refused":[[[0,0],["identification","Person",0,1]]],"rule":"replace"}
+{"end":"done","fuel":998,"lists":[1],"sizes":[1]}
+"#,
+};
+
+/// A rule that merges two nodes, whose labels have to be one.
+const LABELS: Example = Example {
+    words: &["run"],
+    document: r#"{"format": 1,
+ "schema": {"objects": ["Node"], "arrows": [], "attributes": [["label", "Node", "text"]]},
+ "instance": {"parts": [3], "rows": [], "cells": [["a", "b", "a"]]},
+ "rules": [{"name": "merge", "kind": "dpo", "monic": ["Node"],
+  "left": {"parts": [2], "rows": []},
+  "keep": {"parts": [2], "rows": []},
+  "right": {"parts": [1], "rows": []},
+  "l": [[0, 1]], "r": [[0, 0]]}]}
+"#,
+    status: 0,
+    printed: r#"{"box":0,"lists":[[0,[[0,2],[1,2],[2,0],[2,1]],[]]],"match":[0,2],"refused":[[[0,1],["clash","Node",0,"label","a","b"]]],"rule":"merge"}
+{"box":0,"lists":[],"match":null,"refused":[[[0,1],["clash","Node",0,"label","a","b"]],[[1,0],["clash","Node",0,"label","a","b"]]],"rule":"merge"}
+{"end":"done","fuel":998,"lists":[2],"sizes":[2]}
+"#,
+};
+
+/// Two records with one key are merged, and each fills the blank cells of the other.
+const RECORDS: Example = Example {
+    words: &["run"],
+    document: r#"{"format": 2,
+ "schema": {"objects": ["Record"], "arrows": [],
+  "attributes": [["key", "Record", "int"], ["name", "Record", "text"], ["phone", "Record", "text"]]},
+ "instance": {"parts": [3], "rows": [],
+  "cells": [[7, 7, 8], ["Ann", null, "Bob"], [null, "555-0101", null]]},
+ "rules": [{"name": "join", "kind": "dpo", "monic": ["Record"],
+  "left": {"parts": [2], "rows": [], "cells": [["key", 0, {"var": "k"}], ["key", 1, {"var": "k"}]]},
+  "keep": {"parts": [2], "rows": []},
+  "right": {"parts": [1], "rows": []},
+  "l": [[0, 1]], "r": [[0, 0]]}],
+ "watches": [{"name": "complete",
+  "pattern": {"parts": [1], "rows": [], "cells": [["name", 0, {"var": "n"}], ["phone", 0, {"var": "p"}]]}}]}
+"#,
+    status: 0,
+    printed: r#"{"box":0,"lists":[[0,[[0,1],[1,0]],[]],[1,[],[[0]]]],"match":[0,1],"refused":[],"rule":"join"}
+{"box":0,"lists":[],"match":null,"refused":[],"rule":"join"}
+{"end":"done","fuel":998,"lists":[0,1],"sizes":[2]}
+"#,
+};
+
 /// All of them.
-pub(crate) const EXAMPLES: [Example; 15] = [
+pub(crate) const EXAMPLES: [Example; 19] = [
     PATH,
     TRIANGLE,
     PETRI,
@@ -379,4 +461,8 @@ pub(crate) const EXAMPLES: [Example; 15] = [
     SPLIT,
     MESHES,
     PRODUCT,
+    CONTRACTION,
+    PAIRS,
+    LABELS,
+    RECORDS,
 ];

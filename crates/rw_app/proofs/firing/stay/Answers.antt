@@ -1,4 +1,5 @@
 use Rattle.std.proofs.Common.{◌≡◌, ℕ, List, map, None, refl, sym, ap, ◌∙◌}
+use Rattle.rw_columns.specs.Kept.{lists_of_columns}
 use Rattle.rw_document.specs.Models.{document_lists}
 use Rattle.rw_lists.specs.News.{NewsLists, lists_of_entry, differences}
 use Rattle.rw_print.specs.Lines.{line, step_data}
@@ -11,8 +12,8 @@ pub returns : goal.returns
 returns g c =
     let document = document_lists c.args.document.now in
     let rule = c.args.rule.now in
-    let rows = c.args.world.table.rows in
-    let refused = c.args.refused.items in
+    let rows = lists_of_columns c.args.world.now.columns in
+    let refused = c.args.refused.now.items in
     let news : map lists_of_entry c.new.result.items ≡ differences (lists_in document rows) (lists_in document rows) =
     ap (map lists_of_entry) c.new.ensures.items ∙ sym (none_changed (lists_in document rows)) in
     let firing : Firing = record { place = 0; rule = rule; before = rows; refused = refused; applied = None; after = rows } in (

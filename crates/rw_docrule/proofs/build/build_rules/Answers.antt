@@ -4,11 +4,11 @@ use Rattle.std.proofs.lemmas.List.Elements.{All-push, All-rest}
 use Rattle.std.specs.Vec.Iter.{into_iter_items}
 use Rattle.rw_schema.specs.Presentation.{signature_of}
 use Rattle.rw_terms.specs.OpEntries.{entries}
-use Rattle.rw_rule.specs.PlainRules.{is_plain}
 use Rattle.rw_rule.specs.RuleFaults.{IsRuleOver}
 use Rattle.rw_rule.specs.RuleLists.{RuleLists}
 use Rattle.rw_rule.specs.RuleParts.{rule_of_parts}
 use Rattle.rw_docrule.specs.declared.pieces.RuleRead as declared
+use Rattle.rw_docrule.specs.Built.{is_built_rule}
 use Rattle.rw_docrule.specs.Known.{IsRuleUnlessCyclic}
 use Rattle.rw_docrule.specs.Reads.{rule_read}
 use Rattle.rw_docrule.proofs.BuiltRules.{BuiltSo, one_more}
@@ -32,6 +32,6 @@ loop-read-preserved g c =
       gives = rw c.in_ok-push.ensures.items (one_more reads (map rule_read left) (rule_read read) rules rule so c.in_ok-rule.ensures.gives);
       known = All-rest IsKnown read left before first c.loop-read.invariant.known;
       over = rw c.in_ok-push.ensures.items (All-push (IsRuleOver C ops) rules rule c.loop-read.invariant.over c.in_ok-rule.ensures.over);
-      plain = rw c.in_ok-push.ensures.items (All-push (λ rule. is_plain rule ≡ true) rules rule c.loop-read.invariant.plain c.in_ok-rule.ensures.plain);
+      built = rw c.in_ok-push.ensures.items (All-push (λ rule. is_built_rule rule ≡ true) rules rule c.loop-read.invariant.built c.in_ok-rule.ensures.built);
       long = rw (c.in_ok-push.ensures.items, length-append rules (rule ∷ [])) (omega arith);
     }

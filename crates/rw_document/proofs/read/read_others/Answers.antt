@@ -9,7 +9,7 @@ use Rattle.rw_document.proofs.read.read_others.Goals as goal
 pub returns-clause-over : goal.returns-clause-over
 returns-clause-over g c = record {
   rules = c.in_ok-rules.ensures.over;
-  plain = c.in_ok-rules.ensures.plain;
+  built = c.in_ok-rules.ensures.built;
   watches = All-map (IsWatchRead (signature_of c.args.schema.now)) lists_of_watch c.in_ok-goals.goals.watches.items c.in_ok-goals.ensures.watches;
   few_rules = rw c.in_ok-rules.ensures.long c.in_ok-goals.ensures.few_rules;
   few_watches = rw (length-map c.in_ok-goals.goals.watches.items lists_of_watch) c.in_ok-goals.ensures.few_watches;

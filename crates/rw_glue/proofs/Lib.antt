@@ -1,0 +1,15 @@
+pub mod StepGlued
+pub mod CanTouch
+pub mod FoundClash
+pub mod Joined
+pub mod Listed
+pub mod LocalChange
+pub mod Matched
+pub mod Moved
+pub mod NoValues
+pub mod Ready
+pub mod Redirected
+pub mod Rooms
+pub mod SmallClash
+pub mod Steps
+pub mod Touched

@@ -1,0 +1,6 @@
+-- The numbers so far.
+use Rattle.std.proofs.Common.{◌≡◌, map, slice_index, take}
+use Rattle.rw_glue.proofs.lists.numbers_at.Given as goal
+
+abbrev pub invariant-loop-place : goal.invariant-loop-place
+invariant-loop-place l = l.list.items ≡ map (slice_index l.numbers) (take l.place-index l.places)

@@ -1,0 +1,4 @@
+pub mod Given
+pub mod Glues
+pub mod Values
+pub mod inner

@@ -1,3 +1,0 @@
-pub mod Obstructions
-pub mod PlainStep
-pub mod SetLists
